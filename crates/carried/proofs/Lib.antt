@@ -1,0 +1,4 @@
+pub mod Places
+pub mod Readings
+pub mod Walks
+pub mod Theorem

@@ -1,0 +1,125 @@
+-- What a convention owes at each step, and what follows for a whole signature: each record's bytes are new, and inside the image.
+-- Assumes nothing.
+use mathlib.Core.Path.{_≡_, refl, sym, ap, ap₂, _∙_, subst}
+use mathlib.Core.List.{List, [], _∷_, _++_}
+use mathlib.Core.Bool.{Bool, true, false, cond}
+use Prim.Native.Nat.{ℕ, zero, suc, _≤_, _<_}
+use native.Mathlib.Omega.{arith}
+use lib.ListN.{length, length-append}
+use lib.Dec.{ltb}
+use borrow.Author.Tests.{le-ltb}
+use Rattle.words.specs.Words.{promote, body}
+use Rattle.carried.specs.Image.{In, Distinct, Placed, carried, reading}
+use Rattle.carried.specs.Convention.{Step, refuse, next, Convention, Plan, bad, good, also, behind, limited, take, after, from}
+use Rattle.carried.specs.Demand.{Sized, kinds, OneEach}
+use Rattle.carried.proofs.Places.{in-cases, distinct-append}
+use Rattle.carried.proofs.Readings.{bytesIn, length-body, fits-carriers}
+
+-- Free st p: image byte p may still be given to an argument behind this state. What one step owes: the bytes that it gives
+-- were free, are spent behind it, are distinct, are one for each byte of the argument, and lie in the image.
+pub record Owed (c : Convention) (Free : c .State → ℕ → Type 0) (st : c .State) (k : ℕ) (s : Placed) (st′ : c .State) : Type 0 where
+  pub kind : s .kind ≡ k
+  pub sized : (b : List ℕ) → length b ≡ s .size → length (promote (s .extension) b) ≡ length (s .carriers)
+  pub apart : Distinct (s .carriers)
+  pub free : (p : ℕ) → In p (s .carriers) → Free st p
+  pub spent : (p : ℕ) → In p (s .carriers) → Free st′ p → ⊥
+  pub keeps : (p : ℕ) → Free st′ p → Free st p
+  pub inside : (p : ℕ) → In p (s .carriers) → p < c .long st′
+  pub grows : c .long st ≤ c .long st′
+
+abbrev pub StepOwed : (c : Convention) → (c .State → ℕ → Type 0) → c .State → ℕ → Step (c .Place) (c .State) → Type 0
+StepOwed c Free st k (refuse r) = Unit {0}
+StepOwed c Free st k (next p st′) = Owed c Free st k (c .placed k p) st′
+
+pub record Laws (c : Convention) : Type 1 where
+  pub Free : c .State → ℕ → Type 0
+  pub steps : (st : c .State) (k : ℕ) → StepOwed c Free st k (c .step st k)
+
+module _ (c : Convention) (laws : Laws c) where
+  -- the records of an accepted list or signature, step by step
+  pub data Walk : c .State → List ℕ → List Placed → c .State → Type 0 where
+    end : {st : c .State} → Walk st [] [] st
+    one : {st st′ last : c .State} {k : ℕ} {p : c .Place} {ks : List ℕ} {L : List Placed}
+        → c .step st k ≡ next p st′ → c .fits st′ ≡ true → Walk st′ ks L last → Walk st (k ∷ ks) (c .placed k p ∷ L) last
+
+  abbrev Walked : c .State → List ℕ → Plan (c .State) → Type 0
+  Walked st ks (bad r at) = Unit {0}
+  Walked st ks (good L last) = Walk st ks L last
+
+  walked : (ks : List ℕ) (at : ℕ) (st : c .State) → Walked st ks (from c false at st 0 ks)
+  walked [] at st = end
+  walked (k ∷ ks) at st = go (c .step st k) refl (λ st′. walked ks (suc at) st′)
+    where
+      join : (p : c .Place) (st′ : c .State) → c .step st k ≡ next p st′ → c .fits st′ ≡ true → (q : Plan (c .State)) → Walked st′ ks q
+          → Walked st (k ∷ ks) (also (c .placed k p) q)
+      join p st′ e f (bad r at′) w = tt
+      join p st′ e f (good L last) w = one e f w
+
+      fit : (p : c .Place) (st′ : c .State) → c .step st k ≡ next p st′ → (t : Bool) → c .fits st′ ≡ t → (r : ℕ → c .State → Plan (c .State)) → ((n : ℕ) (st″ : c .State) → Walked st″ ks (r n st″))
+          → Walked st (k ∷ ks) (after c at k (cond t (next p st′) (refuse 5)) r)
+      fit p st′ e false f r w = tt
+      fit p st′ e true f r w = join p st′ e f (r (c .placed k p .size) st′) (w (c .placed k p .size) st′)
+
+      go : (s : Step (c .Place) (c .State)) → c .step st k ≡ s → ((st′ : c .State) → Walked st′ ks (from c false (suc at) st′ 0 ks))
+          → Walked st (k ∷ ks) (after c at k (limited c false (length ks) k s) (λ size st′. from c false (suc at) st′ (behind false size) ks))
+      go (refuse r) e w = tt
+      go (next p st′) e w = rw (le-ltb (length ks) 0 (omega arith))
+          (fit p st′ e (c .fits st′) refl (λ n st″. from c false (suc at) st″ 0 ks) (λ n st″. w st″))
+
+  pub walk-of : (ks : List ℕ) (st : c .State) (L : List Placed) (last : c .State) (at : ℕ) → from c false at st 0 ks ≡ good L last → Walk st ks L last
+  walk-of ks st L last at e = subst (Walked st ks) e (walked ks at st)
+
+  owed : {st st′ : c .State} {k : ℕ} {p : c .Place} → c .step st k ≡ next p st′ → Owed c (laws .Free) st k (c .placed k p) st′
+  owed {st} {st′} {k} {p} e = subst (StepOwed c (laws .Free) st k) e (laws .steps st k)
+
+  pub walk-kinds : {st last : c .State} {ks : List ℕ} {L : List Placed} → Walk st ks L last → kinds L ≡ ks
+  walk-kinds end = refl
+  walk-kinds (one e f w) = ap₂ (λ (k : ℕ) (r : List ℕ). k ∷ r) (owed e .kind) (walk-kinds w)
+
+  walk-sized : {st last : c .State} {ks : List ℕ} {L : List Placed} → Walk st ks L last → Sized L
+  walk-sized end = tt
+  walk-sized (one e f w) = (owed e .sized, walk-sized w)
+
+  walk-grows : {st last : c .State} {ks : List ℕ} {L : List Placed} → Walk st ks L last → c .long st ≤ c .long last
+  walk-grows end = omega arith
+  walk-grows (one e f w) = omega (arith, owed e .grows, walk-grows w)
+
+  walk-free : {st last : c .State} {ks : List ℕ} {L : List Placed} → Walk st ks L last → (p : ℕ) → In p (carried L) → laws .Free st p
+  walk-free end p m = absurd m
+  walk-free (one {k = k} {p = q} {L = L} e f w) p m =
+      in-cases (c .placed k q .carriers) (carried L) p m (owed e .free p) (λ m′. owed e .keeps p (walk-free w p m′))
+
+  walk-inside : {st last : c .State} {ks : List ℕ} {L : List Placed} → Walk st ks L last → (p : ℕ) → In p (carried L) → p < c .long last
+  walk-inside end p m = absurd m
+  walk-inside (one {k = k} {p = q} {L = L} e f w) p m =
+      in-cases (c .placed k q .carriers) (carried L) p m (λ m′. omega (arith, owed e .inside p m′, walk-grows w)) (λ m′. walk-inside w p m′)
+
+  walk-distinct : {st last : c .State} {ks : List ℕ} {L : List Placed} → Walk st ks L last → Distinct (carried L)
+  walk-distinct end = tt
+  walk-distinct (one {k = k} {p = q} {L = L} e f w) =
+      distinct-append (c .placed k q .carriers) (carried L) (owed e .apart) (walk-distinct w) (λ p m m′. owed e .spent p m (walk-free w p m′))
+
+  pub walk-one-each : {st last : c .State} {ks : List ℕ} {L : List Placed} → Walk st ks L last → OneEach (c .long last) L
+  walk-one-each w = record { sized = walk-sized w; distinct = walk-distinct w; inside = λ p m. walk-inside w p m }
+
+  -- the bytes of a body are passed over
+  pass : (b l : List ℕ) (n at : ℕ) (st : c .State) (q : Plan (c .State)) → length b ≡ n → ((at′ : ℕ) → from c true at′ st 0 l ≡ q) → from c true at st n (b ++ l) ≡ q
+  pass [] l zero at st q e h = h at
+  pass [] l (suc n) at st q e h = absurd (omega arith)
+  pass (x ∷ b) l zero at st q e h = absurd (omega arith)
+  pass (x ∷ b) l (suc n) at st q e h = pass b l n (suc at) st q (omega arith) h
+
+  -- the records of a reading are placed as those of its signature are
+  pub plan-reading : {st last : c .State} {ks : List ℕ} {L : List Placed} → Walk st ks L last → (img : List ℕ) (at : ℕ)
+      → from c true at st 0 (reading L img) ≡ good L last
+  plan-reading end img at = refl
+  plan-reading (one {st = st} {st′ = st′} {last = last} {k = k} {p = p} {L = L} e f w) img at =
+      let s : Placed = c .placed k p in
+      let b : List ℕ = body (s .size) (bytesIn s img) in
+      let lb : length b ≡ s .size = length-body s img (fits-carriers s (owed e .sized)) in
+      let uncut : ltb (length (b ++ reading L img)) (s .size) ≡ false =
+      le-ltb (length (b ++ reading L img)) (s .size) (rw length-append (omega arith)) in
+      subst
+      (λ (j : ℕ). after c at j (take c true (length (b ++ reading L img)) st j) (λ size st″. from c true (suc at) st″ (behind true size) (b ++ reading L img)) ≡ good (s ∷ L) last)
+      (sym (owed e .kind))
+      (rw (e, uncut, f, pass b (reading L img) (s .size) (suc at) st′ (good L last) lb (λ at′. plan-reading w img at′)) refl)

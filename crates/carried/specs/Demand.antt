@@ -1,0 +1,47 @@
+-- The carried-bytes theorem, as a statement about the writer and the reader of a convention.
+use mathlib.Core.Path.{_≡_}
+use mathlib.Core.Logic.{_↔_}
+use mathlib.Core.List.{List, [], _∷_}
+use Prim.Native.Nat.{ℕ, _<_}
+use lib.ListN.{length, getD}
+use Rattle.words.specs.Words.{promote}
+use Rattle.carried.specs.Image.{In, Distinct, Placed, carried, done}
+use Rattle.carried.specs.Convention.{Convention, write, read}
+
+-- Each byte of an argument after promotion has its entry among the argument's carriers.
+abbrev pub Sized : List Placed → Type 0
+Sized [] = Unit {0}
+Sized (s ∷ L) = ((b : List ℕ) → length b ≡ s .size → length (promote (s .extension) b) ≡ length (s .carriers)) × Sized L
+
+abbrev pub kinds : List Placed → List ℕ
+kinds [] = []
+kinds (s ∷ L) = s .kind ∷ kinds L
+
+-- "Each argument byte has exactly one carried byte, none shared"; all lie in the image's n bytes.
+pub record OneEach (n : ℕ) (L : List Placed) : Type 0 where
+  pub sized : Sized L
+  pub distinct : Distinct (carried L)
+  pub inside : (p : ℕ) → In p (carried L) → p < n
+
+-- "The rewriting is the image that the writer gives for the reading": of an image a that reads as x.
+pub record Rewriting (c : Convention) (sig : List ℕ) (L : List Placed) (n : ℕ) (a x : List ℕ) : Type 0 where
+  pub rewriting : List ℕ
+  pub written : write c x ≡ done rewriting
+  pub long : length rewriting ≡ n
+  pub keeps : (p : ℕ) → In p (carried L) → getD rewriting p 0 ≡ getD a p 0
+  pub clears : (p : ℕ) → (In p (carried L) → ⊥) → getD rewriting p 0 ≡ 0
+  pub reads : read c sig rewriting ≡ done x
+  pub settles : (y r : List ℕ) → read c sig rewriting ≡ done y → write c y ≡ done r → r ≡ rewriting
+
+-- The theorem at one accepted signature: L are its records, placed; its images have n bytes. An image a is accepted, and
+-- reads as x, where `read c sig a ≡ done x`.
+pub record Carried (c : Convention) (sig : List ℕ) (L : List Placed) (n : ℕ) : Type 0 where
+  pub signature : kinds L ≡ sig
+  pub placed : OneEach n L
+  -- two images read as the same list exactly when they agree on all carried bytes
+  pub read-same : (a b x y : List ℕ) → read c sig a ≡ done x → read c sig b ≡ done y
+      → (x ≡ y) ↔ ((p : ℕ) → In p (carried L) → getD a p 0 ≡ getD b p 0)
+  pub rewrites : (a x : List ℕ) → read c sig a ≡ done x → Rewriting c sig L n a x
+  -- two images have the same rewriting exactly when they read as the same list
+  pub same-rewriting : (a b x y r s : List ℕ) → read c sig a ≡ done x → read c sig b ≡ done y
+      → write c x ≡ done r → write c y ≡ done s → (r ≡ s) ↔ (x ≡ y)

@@ -1,0 +1,70 @@
+-- What it means that bytes of an image carry arguments ("The image"). Nothing here belongs to one convention.
+use mathlib.Core.Path.{_≡_}
+use mathlib.Core.Logic.{_⊎_}
+use mathlib.Core.List.{List, [], _∷_, _++_}
+use mathlib.Core.Bool.{Bool, cond}
+use Prim.Native.Nat.{ℕ, suc}
+use lib.ListN.{length, getD, set, take, drop, replicate}
+use Rattle.words.specs.Words.{Extension, promote, body, proper}
+
+-- An image byte is a number, its offset in the image. p is one of ps:
+abbrev pub In : ℕ → List ℕ → Type 0
+In p [] = ⊥
+In p (q ∷ qs) = (p ≡ q) ⊎ In p qs
+
+-- No image byte stands in it twice.
+abbrev pub Distinct : List ℕ → Type 0
+Distinct [] = Unit {0}
+Distinct (p ∷ ps) = (In p ps → ⊥) × Distinct ps
+
+-- What an image holds at these bytes, in order.
+abbrev pub gather : List ℕ → List ℕ → List ℕ
+gather img [] = []
+gather img (p ∷ ps) = getD img p 0 ∷ gather img ps
+
+-- An image after these values were stored at these bytes, in order.
+abbrev pub put : List ℕ → List ℕ → List ℕ → List ℕ
+put img [] vs = img
+put img (p ∷ ps) [] = img
+put img (p ∷ ps) (v ∷ vs) = put (set img p v) ps vs
+
+-- A record of a list with its place in the image: its kind byte, the bytes of its body, what promotion puts in front of them,
+-- and the image bytes that carry its bytes after promotion, in their order. (A marker has none.)
+pub record Placed : Type 0 where
+  pub kind : ℕ
+  pub size : ℕ
+  pub extension : Extension
+  pub carriers : List ℕ
+
+-- The carried bytes of a signature, argument by argument.
+abbrev pub carried : List Placed → List ℕ
+carried [] = []
+carried (s ∷ L) = s .carriers ++ carried L
+
+-- The bytes of a list's arguments after promotion, argument by argument.
+abbrev pub promotedBytes : List Placed → List ℕ → List ℕ
+promotedBytes [] l = []
+promotedBytes (s ∷ L) [] = []
+promotedBytes (s ∷ L) (k ∷ l) = promote (s .extension) (take (s .size) l) ++ promotedBytes L (drop (s .size) l)
+
+-- The image of a list, n bytes long. "The writer puts zero in every byte that carries nothing."
+abbrev pub image : ℕ → List Placed → List ℕ → List ℕ
+image n L l = put (replicate n 0) (carried L) (promotedBytes L l)
+
+-- "The reading is .. the signature's kind bytes in order, each followed by the body whose bytes, after promotion, are those
+-- that the image carries for it."
+abbrev pub reading : List Placed → List ℕ → List ℕ
+reading [] img = []
+reading (s ∷ L) img = s .kind ∷ (body (s .size) (gather img (s .carriers)) ++ reading L img)
+
+-- What the writer and the reader answer: the bytes, or the refusal's number and place.
+pub data Answer : Type 0 where
+  done : List ℕ → Answer
+  refused : ℕ → ℕ → Answer
+
+-- Refusal 8 at the first kind whose bytes are no proper promotion, or else this answer. (Where promotion adds nothing, any
+-- bytes are proper.)
+abbrev pub checked : ℕ → List Placed → List ℕ → Answer → Answer
+checked at [] img a = a
+checked at (s ∷ L) img a =
+    cond (proper (s .extension) (s .size) (gather img (s .carriers))) (checked (suc at) L img a) (refused 8 at)

@@ -1,0 +1,77 @@
+-- The twelve bench cases that are to be proved: one table, one theorem, by computation.
+-- Assumes nothing.
+use mathlib.Core.List.{List, [], _∷_, _++_}
+use mathlib.Core.Bool.{Bool, true, false, _&&_}
+use Prim.Native.Nat.{ℕ}
+use lib.Dec.{T}
+use Rattle.words.specs.Words.{bytesOf, same}
+use Rattle.carried.specs.Image.{Answer, done, refused}
+use Rattle.carried.specs.Convention.{write}
+use Rattle.o32.specs.O32.{O32}
+
+-- a list, and its image by words: $4 to $7, $f12 to $f15, the area
+data Case : Type 0 where
+  case : List ℕ → List ℕ → List ℕ → List ℕ → Case
+
+abbrev wordBytes : List ℕ → List ℕ
+wordBytes [] = []
+wordBytes (w ∷ ws) = bytesOf 4 w ++ wordBytes ws
+
+abbrev gives : Answer → List ℕ → Bool
+gives (done img) expected = same img expected
+gives (refused r at) expected = false
+
+abbrev hold : List Case → Bool
+hold [] = true
+hold (case list general floating area ∷ cases) = gives (write O32 list) (wordBytes (general ++ floating ++ area)) && hold cases
+
+-- records: a word, a single, a double, a return pointer, a marker
+abbrev n : ℕ → List ℕ
+n x = 0x05 ∷ bytesOf 4 x
+
+abbrev s : ℕ → List ℕ
+s x = 0x07 ∷ bytesOf 4 x
+
+abbrev d : ℕ → List ℕ
+d x = 0x08 ∷ bytesOf 8 x
+
+abbrev pointer : ℕ → List ℕ
+pointer x = 0x0B ∷ bytesOf 4 x
+
+abbrev marker : List ℕ
+marker = 0x0A ∷ []
+
+abbrev none : List ℕ
+none = 0 ∷ 0 ∷ 0 ∷ 0 ∷ []
+
+abbrev table : List Case
+table =
+    -- empty
+    case [] none none none
+    -- 01 80
+    ∷ case (0x01 ∷ 0x80 ∷ []) (0xFFFFFF80 ∷ 0 ∷ 0 ∷ 0 ∷ []) none none
+    -- d,s
+    ∷ case (d 0xD1D2D3D4D5D6D7D8 ++ s 0xA1A2A3A4) none (0xD1D2D3D4 ∷ 0xD5D6D7D8 ∷ 0xA1A2A3A4 ∷ 0 ∷ []) none
+    -- s,d
+    ∷ case (s 0xA1A2A3A4 ++ d 0xD1D2D3D4D5D6D7D8) none (0xA1A2A3A4 ∷ 0 ∷ 0xD1D2D3D4 ∷ 0xD5D6D7D8 ∷ []) none
+    -- s,s,d
+    ∷ case (s 0xA1A2A3A4 ++ s 0xB1B2B3B4 ++ d 0xD1D2D3D4D5D6D7D8) (0 ∷ 0 ∷ 0xD1D2D3D4 ∷ 0xD5D6D7D8 ∷ []) (0xA1A2A3A4 ∷ 0 ∷ 0xB1B2B3B4 ∷ 0 ∷ []) none
+    -- n,d
+    ∷ case (n 0x11121314 ++ d 0xD1D2D3D4D5D6D7D8) (0x11121314 ∷ 0 ∷ 0xD1D2D3D4 ∷ 0xD5D6D7D8 ∷ []) none none
+    -- s,n,s,n
+    ∷ case (s 0xA1A2A3A4 ++ n 0x11121314 ++ s 0xB1B2B3B4 ++ n 0x21222324) (0 ∷ 0x11121314 ∷ 0xB1B2B3B4 ∷ 0x21222324 ∷ []) (0xA1A2A3A4 ∷ 0 ∷ 0 ∷ 0 ∷ []) none
+    -- n,n,n,d
+    ∷ case (n 0x11121314 ++ n 0x21222324 ++ n 0x31323334 ++ d 0xD1D2D3D4D5D6D7D8) (0x11121314 ∷ 0x21222324 ∷ 0x31323334 ∷ 0 ∷ []) none (none ++ (0xD1D2D3D4 ∷ 0xD5D6D7D8 ∷ []))
+    -- s, marker, d
+    ∷ case (s 0xA1A2A3A4 ++ marker ++ d 0xD1D2D3D4D5D6D7D8) (0 ∷ 0 ∷ 0xD1D2D3D4 ∷ 0xD5D6D7D8 ∷ []) (0xA1A2A3A4 ∷ 0 ∷ 0 ∷ 0 ∷ []) none
+    -- return pointer, d
+    ∷ case (pointer 0x11121314 ++ d 0xD1D2D3D4D5D6D7D8) (0x11121314 ∷ 0 ∷ 0xD1D2D3D4 ∷ 0xD5D6D7D8 ∷ []) none none
+    -- n = 9, then 45 with 01..06
+    ∷ case (n 9 ++ (0x45 ∷ 1 ∷ 2 ∷ 3 ∷ 4 ∷ 5 ∷ 6 ∷ [])) (9 ∷ 0x01020304 ∷ 0x05060000 ∷ 0 ∷ []) none none
+    -- n, then 53 (20 bytes)
+    ∷ case (n 0x11121314 ++ (0x53 ∷ wordBytes (0x51525354 ∷ 0x61626364 ∷ 0x71727374 ∷ 0x81828384 ∷ 0x91929394 ∷ [])))
+    (0x11121314 ∷ 0x51525354 ∷ 0x61626364 ∷ 0x71727374 ∷ []) none (none ++ (0x81828384 ∷ 0x91929394 ∷ []))
+    ∷ []
+
+bench-cases : T (hold table)
+bench-cases = tt

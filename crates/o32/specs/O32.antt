@@ -1,0 +1,85 @@
+-- Placement rules 3 to 5 and refusals 1, 2, 3 and 5: O32 as a convention.
+use mathlib.Core.List.{List, [], _∷_, _++_, map}
+use mathlib.Core.Bool.{Bool, true, false, cond, not, _&&_, _||_}
+use Prim.Native.Nat.{ℕ, zero, suc, _+_, _-_, _*_, max}
+use lib.Dec.{eqb, leb, ltb}
+use Rattle.carried.specs.Convention.{Step, refuse, next, Convention}
+use Rattle.o32.specs.declared.Class.the-variants.{Unknown, Marker, Pointer, Float}
+use Rattle.o32.specs.declared.Kind.{Kind}
+use Rattle.o32.specs.declared.State.{State}
+use Rattle.o32.specs.declared.Placement.{Placement}
+use Rattle.o32.specs.Kinds.{kindOf, is}
+use Rattle.o32.specs.Offsets.{extension, width, up, offset, ending}
+
+-- Rule 3. The floating register of an argument, or 0. "If the first argument is s or d, it goes to $f12. If it is and the
+-- second is s or d before any marker, that one goes to $f14. No other argument uses these registers. A return pointer counts
+-- as first."
+abbrev pub register : State → Kind → ℕ
+register st k =
+    cond (is Float k && eqb (st .count) 0) 12
+    (cond (is Float k && eqb (st .count) 1 && st .floating && not (st .marked)) 14 0)
+
+-- n image bytes from p on, and those of a floating register: "eight register words, $4 to $7 then $f12 to $f15".
+abbrev pub run : ℕ → ℕ → List ℕ
+run p zero = []
+run p (suc n) = p ∷ run (suc p) n
+
+abbrev pub registerWord : ℕ → List ℕ
+registerWord f = run (16 + 4 * (f - 12)) 4
+
+-- Rule 3. "A double takes the pair: its first four bytes in the even register, the next four in the odd one."
+abbrev pub pair : ℕ → ℕ → List ℕ
+pair f size = cond (eqb size 8) (registerWord f ++ registerWord (f + 1)) (registerWord f)
+
+-- Rule 4. "Byte i of an argument at offset o is carried by image byte o + i where o + i is below 16, else by image byte
+-- 32 + o + i."
+abbrev pub carrier : ℕ → ℕ
+carrier o = cond (ltb o 16) o (32 + o)
+
+abbrev pub carriers : Placement → List ℕ
+carriers p = cond (eqb (p .register) 0) (map carrier (run (p .offset) (width (p .kind)))) (pair (p .register) (p .kind .size))
+
+-- Rule 5. "The area size A is the end of the last argument rounded up to 8, and at least 16."
+abbrev pub area : ℕ → ℕ
+area end = max 16 (up 8 end)
+
+-- Refusal 2. "The marker stands at most once, and after at least one argument that is no return pointer. A return pointer
+-- stands first or nowhere."
+abbrev pub misplaced : State → Kind → Bool
+misplaced st k = (is Marker k && (st .marked || leb (st .count) (st .pointers))) || (is Pointer k && not (eqb (st .count) 0))
+
+-- Refusal 3. "At most 32 arguments, the return pointer counted, the marker not."
+abbrev pub full : State → Kind → Bool
+full st k = not (is Marker k) && leb 32 (st .count)
+
+-- The state behind a record. A marker is no argument.
+abbrev pub onward : State → Kind → State
+onward st k = cond (is Marker k)
+    (record { end = st .end; count = st .count; pointers = st .pointers; floating = st .floating; marked = true })
+    (record {
+      end = ending k (st .end);
+      count = st .count + 1;
+      pointers = st .pointers + cond (is Pointer k) 1 0;
+      floating = cond (eqb (st .count) 0) (is Float k) (st .floating);
+      marked = st .marked;
+    })
+
+-- Refusals 1, 2 and 3 in their order, or the record's placement.
+abbrev pub stepped : State → Kind → Step Placement State
+stepped st k =
+    cond (is Unknown k) (refuse 1)
+    (cond (misplaced st k) (refuse 2)
+    (cond (full st k) (refuse 3)
+    (next (record { kind = k; offset = offset k (st .end); register = register st k }) (onward st k))))
+
+-- The convention. "The end may be at most 1,024" (rule 5, refusal 5). "Its length is 32 + A."
+abbrev pub O32 : Convention
+O32 = record {
+  State = State;
+  Place = Placement;
+  start = record { end = 0; count = 0; pointers = 0; floating = false; marked = false };
+  step = λ st k. stepped st (kindOf k);
+  placed = λ k p. record { kind = k; size = p .kind .size; extension = extension (p .kind); carriers = carriers p };
+  fits = λ st. leb (st .end) 1024;
+  long = λ st. 32 + area (st .end);
+}

@@ -1,0 +1,3 @@
+pub mod Sign
+pub mod Bytes
+pub mod Promotion
