@@ -4,14 +4,16 @@ use mathlib.Core.Path.{_≡_, refl, sym, ap, _∙_, subst}
 use mathlib.Core.Logic.{_⊎_, inl, inr}
 use mathlib.Core.List.{List, [], _∷_, _++_}
 use mathlib.Core.Bool.{Bool, true, false, not, _&&_, _||_, and-false}
-use Prim.Native.Nat.{ℕ, zero, suc, _+_, _-_, _≤_, _<_}
+use Prim.Native.Nat.{ℕ, zero, suc, _+_, _-_, _*_, _^_, _≤_, _<_}
 use native.Mathlib.Omega.{arith}
+use lib.ListN.{drop}
 use lib.Dec.{T, eqb, leb, ltb, eqb→eq, leb→le, ltb→lt}
-use borrow.Author.Tests.{lt-leb, ltb-true, ltb-false, eqb-true, eqb-false}
+use borrow.Author.Tests.{le-leb, lt-leb, leb-true, ltb-true, ltb-false, eqb-true, eqb-false}
 use Rattle.o32.specs.declared.Class.{Class}
 use Rattle.o32.specs.declared.Class.the-variants.{Unknown, Marker, Pointer, Signed, Unsigned, Float, Plain}
 use Rattle.o32.specs.declared.Kind.{Kind}
 use Rattle.o32.specs.Kinds.{Row, row, table, look, kindOf, is}
+use Rattle.o32.specs.Offsets.{Alignment}
 
 -- the test
 abbrev implies : Bool → Bool → Bool
@@ -20,7 +22,8 @@ implies a b = not a || b
 abbrev sound : Kind → Bool
 sound k =
     leb (k .size) 512
-    && implies (not (is Unknown k || is Marker k)) (eqb (k .alignment) 4 || eqb (k .alignment) 8)
+    && (eqb (k .alignment) 0 || (eqb (k .alignment) 4 || eqb (k .alignment) 8))
+    && implies (not (is Unknown k || is Marker k)) (leb 1 (k .alignment))
     && implies (is Marker k) (eqb (k .size) 0)
     && implies (is Signed k || is Unsigned k) (leb 1 (k .size) && leb (k .size) 2)
     && implies (is Float k) (eqb (k .size) 4 || eqb (k .size) 8)
@@ -28,7 +31,8 @@ sound k =
 -- and what it says
 pub record Sound (k : Kind) : Type 0 where
   pub small : k .size ≤ 512
-  pub aligned : is Unknown k || is Marker k ≡ false → (k .alignment ≡ 4) ⊎ (k .alignment ≡ 8)
+  pub alignments : Alignment (k .alignment)
+  pub aligned : is Unknown k || is Marker k ≡ false → 1 ≤ k .alignment
   pub markers : is Marker k ≡ true → k .size ≡ 0
   pub promoted : is Signed k || is Unsigned k ≡ true → (1 ≤ k .size) × (k .size ≤ 2)
   pub floats : is Float k ≡ true → (k .size ≡ 4) ⊎ (k .size ≡ 8)
@@ -45,31 +49,33 @@ implied : (a b : Bool) → T (implies a b) → a ≡ true → T b
 implied true b t e = t
 implied false b t e = absurd (let z : _≡_ {A = ℕ} 0 1 = cc in omega arith)
 
-either : (n a b : ℕ) → T (eqb n a || eqb n b) → (n ≡ a) ⊎ (n ≡ b)
-either n a b t = go (eqb n a) refl t
-  where
-    go : (u : Bool) → eqb n a ≡ u → T (u || eqb n b) → (n ≡ a) ⊎ (n ≡ b)
-    go true e t = inl (eqb→eq n a (rw e tt))
-    go false e t = inr (eqb→eq n b t)
+either : {A B : Type 0} (a b : Bool) → (T a → A) → (T b → B) → T (a || b) → A ⊎ B
+either true b f g t = inl (f tt)
+either false b f g t = inr (g t)
 
 tested : (k : Kind) → T (sound k) → Sound k
 tested k t =
     let a = leb (k .size) 512 in
-    let b = implies (not (is Unknown k || is Marker k)) (eqb (k .alignment) 4 || eqb (k .alignment) 8) in
-    let c = implies (is Marker k) (eqb (k .size) 0) in
-    let d = implies (is Signed k || is Unsigned k) (leb 1 (k .size) && leb (k .size) 2) in
-    let e = implies (is Float k) (eqb (k .size) 4 || eqb (k .size) 8) in
-    let t₄ : T (a && b && c && d) = and-left (a && b && c && d) e t in
+    let b = eqb (k .alignment) 0 || (eqb (k .alignment) 4 || eqb (k .alignment) 8) in
+    let c = implies (not (is Unknown k || is Marker k)) (leb 1 (k .alignment)) in
+    let d = implies (is Marker k) (eqb (k .size) 0) in
+    let e = implies (is Signed k || is Unsigned k) (leb 1 (k .size) && leb (k .size) 2) in
+    let f = implies (is Float k) (eqb (k .size) 4 || eqb (k .size) 8) in
+    let t₅ : T (a && b && c && d && e) = and-left (a && b && c && d && e) f t in
+    let t₄ : T (a && b && c && d) = and-left (a && b && c && d) e t₅ in
     let t₃ : T (a && b && c) = and-left (a && b && c) d t₄ in
     let t₂ : T (a && b) = and-left (a && b) c t₃ in
     record {
       small = leb→le (k .size) 512 (and-left a b t₂);
-      aligned = λ h. either (k .alignment) 4 8 (implied (not (is Unknown k || is Marker k)) _ (and-right a b t₂) (rw h refl));
-      markers = λ h. eqb→eq (k .size) 0 (implied (is Marker k) _ (and-right (a && b) c t₃) h);
+      alignments = either (eqb (k .alignment) 0) _ (eqb→eq (k .alignment) 0)
+          (either (eqb (k .alignment) 4) (eqb (k .alignment) 8) (eqb→eq (k .alignment) 4) (eqb→eq (k .alignment) 8)) (and-right a b t₂);
+      aligned = λ h. leb→le 1 (k .alignment) (implied (not (is Unknown k || is Marker k)) _ (and-right (a && b) c t₃) (rw h refl));
+      markers = λ h. eqb→eq (k .size) 0 (implied (is Marker k) _ (and-right (a && b && c) d t₄) h);
       promoted = λ h.
-          let u : T (leb 1 (k .size) && leb (k .size) 2) = implied (is Signed k || is Unsigned k) _ (and-right (a && b && c) d t₄) h in
+          let u : T (leb 1 (k .size) && leb (k .size) 2) = implied (is Signed k || is Unsigned k) _ (and-right (a && b && c && d) e t₅) h in
           (leb→le 1 (k .size) (and-left (leb 1 (k .size)) (leb (k .size) 2) u), leb→le (k .size) 2 (and-right (leb 1 (k .size)) (leb (k .size) 2) u));
-      floats = λ h. either (k .size) 4 8 (implied (is Float k) _ (and-right (a && b && c && d) e t) h);
+      floats = λ h. either (eqb (k .size) 4) (eqb (k .size) 8) (eqb→eq (k .size) 4) (eqb→eq (k .size) 8)
+          (implied (is Float k) _ (and-right (a && b && c && d && e) f t) h);
     }
 
 -- the test holds of all kinds below n
@@ -113,3 +119,47 @@ kind-sound k = go (ltb k 256) refl
     go : (u : Bool) → ltb k 256 ≡ u → Sound (kindOf k)
     go true e = tested (kindOf k) (below 256 k tt (ltb-true k 256 e))
     go false e = rw (look-past table [] 256 k tt (ltb-false k 256 e)) (tested (look k []) tt)
+
+-- ---- what each arm of the code's match answers
+
+pub single : (k j : ℕ) (r : Kind) → k ≡ j → r ≡ kindOf j → r ≡ kindOf k
+single k j r e h = h ∙ ap kindOf (sym e)
+
+-- a structure's row, behind rows that end below it
+pub ranged : (rows more : List Row) (first last : ℕ) (size : ℕ → ℕ) (a k : ℕ) (r : Kind) → T (endBelow first rows) → first ≤ k → k < suc last
+    → r ≡ record { size = size k; alignment = a; class = Plain } → r ≡ look k (rows ++ (row first last size a Plain ∷ more))
+ranged rows more first last size a k r t h g e =
+    e ∙ sym (look-past rows (row first last size a Plain ∷ more) first k t h ∙ rw (le-leb first k h, le-leb k last (omega arith)))
+
+-- k is none of these single kinds
+abbrev pub NoneOf : List ℕ → ℕ → Type 0
+NoneOf [] k = Unit {0}
+NoneOf (j ∷ js) k = NoneOf js k × (k ≡ j → ⊥)
+
+no-row : (k j : ℕ) → (k ≡ j → ⊥) → leb j k && leb k j ≡ false
+no-row k j h = go (leb j k) (leb k j) refl refl
+  where
+    go : (t u : Bool) → leb j k ≡ t → leb k j ≡ u → t && u ≡ false
+    go false u d e = refl
+    go true false d e = refl
+    go true true d e = absurd (h (omega (arith, leb-true j k d, leb-true k j e)))
+
+pub unknown : (k : ℕ) (r : Kind) → NoneOf (11 ∷ 10 ∷ 8 ∷ 7 ∷ 6 ∷ 5 ∷ 4 ∷ 3 ∷ 2 ∷ 1 ∷ []) k → (k < 64) ⊎ (256 ≤ k) → r ≡ look k [] → r ≡ kindOf k
+unknown k r n (inr h) e = e ∙ sym (look-past table [] 256 k tt h)
+unknown k r n (inl h) e =
+    e ∙ sym (rw (
+      no-row k 1 (n .0 .0 .0 .0 .0 .0 .0 .0 .0 .1),
+      no-row k 2 (n .0 .0 .0 .0 .0 .0 .0 .0 .1),
+      no-row k 3 (n .0 .0 .0 .0 .0 .0 .0 .1),
+      no-row k 4 (n .0 .0 .0 .0 .0 .0 .1),
+      no-row k 5 (n .0 .0 .0 .0 .0 .1),
+      no-row k 6 (n .0 .0 .0 .0 .1),
+      no-row k 7 (n .0 .0 .0 .1),
+      no-row k 8 (n .0 .0 .1),
+      no-row k 10 (n .0 .1),
+      no-row k 11 (n .1),
+    ) (look-before (drop 10 table) 64 k tt h))
+
+-- the sums and products of the sizes stay small
+pub sizes-fit : (k : ℕ) → k < 256 → (4 * (k - 127) < 2 ^ 64) × (64 + 4 * (k - 127) < 2 ^ 64) × (8 * (k - 191) < 2 ^ 64)
+sizes-fit k h = omega arith

@@ -191,10 +191,6 @@ word-length : (s : Bool) (n : ℕ) (b : List ℕ) → n ≤ 4 → length b ≡ n
 word-length true n b h e = length-append (front (toWord true n) b) b ∙ rw length-replicate (omega arith)
 word-length false n b h e = length-append (front (toWord false n) b) b ∙ rw length-replicate (omega arith)
 
-starts : (a end : ℕ) → (a ≡ 4) ⊎ (a ≡ 8) → end ≤ up a end
-starts a end (inl e) = up-ge a end (omega arith)
-starts a end (inr e) = up-ge a end (omega arith)
-
 ends : (o m : ℕ) → o + m ≤ o + up 4 m
 ends o m = omega (arith, up-ge 4 m (omega arith))
 
@@ -213,12 +209,12 @@ module _ (st : State) (k n a : ℕ) where
   abbrev of : Class → Kind
   of c = record { size = n; alignment = a; class = c }
 
-  by-offset : (e : Extension) (m : ℕ) (st′ : State) → st′ .end ≡ up a (st .end) + up 4 m → st′ .count ≡ st .count + 1 → (a ≡ 4) ⊎ (a ≡ 8)
+  by-offset : (e : Extension) (m : ℕ) (st′ : State) → st′ .end ≡ up a (st .end) + up 4 m → st′ .count ≡ st .count + 1 → 1 ≤ a
       → ((b : List ℕ) → length b ≡ n → length (promote e b) ≡ m) → Owed O32 Free st k (record { kind = k; size = n; extension = e; carriers = span (up a (st .end)) m }) st′
-  by-offset e m st′ x y h = laid st k n e (up a (st .end)) m st′ (starts a (st .end) h) (omega (arith, ends (up a (st .end)) m)) (omega arith)
+  by-offset e m st′ x y h = laid st k n e (up a (st .end)) m st′ (up-ge a (st .end) h) (omega (arith, ends (up a (st .end)) m)) (omega arith)
 
   grown : Sound (of Float) → st .end ≤ ending (of Float) (st .end)
-  grown s = omega (arith, starts a (st .end) (s .aligned refl), ends (up a (st .end)) n)
+  grown s = omega (arith, up-ge a (st .end) (s .aligned refl), ends (up a (st .end)) n)
 
   by-register : (t u : Bool) → eqb (st .count) 0 ≡ t → eqb (st .count) 1 && st .floating && not (st .marked) ≡ u → Sound (of Float)
       → Gives st k (next (record { kind = of Float; offset = up a (st .end); register = cond t 12 (cond u 14 0) }) (onward st (of Float)))

@@ -46,7 +46,7 @@ area end = max 16 (up 8 end)
 -- Refusal 2. "The marker stands at most once, and after at least one argument that is no return pointer. A return pointer
 -- stands first or nowhere."
 abbrev pub misplaced : State → Kind → Bool
-misplaced st k = (is Marker k && (st .marked || leb (st .count) (st .pointers))) || (is Pointer k && not (eqb (st .count) 0))
+misplaced st k = (is Marker k && (st .marked || leb (st .count) (cond (st .pointer) 1 0))) || (is Pointer k && not (eqb (st .count) 0))
 
 -- Refusal 3. "At most 32 arguments, the return pointer counted, the marker not."
 abbrev pub full : State → Kind → Bool
@@ -55,11 +55,11 @@ full st k = not (is Marker k) && leb 32 (st .count)
 -- The state behind a record. A marker is no argument.
 abbrev pub onward : State → Kind → State
 onward st k = cond (is Marker k)
-    (record { end = st .end; count = st .count; pointers = st .pointers; floating = st .floating; marked = true })
+    (record { end = st .end; count = st .count; pointer = st .pointer; floating = st .floating; marked = true })
     (record {
       end = ending k (st .end);
       count = st .count + 1;
-      pointers = st .pointers + cond (is Pointer k) 1 0;
+      pointer = st .pointer || is Pointer k;
       floating = cond (eqb (st .count) 0) (is Float k) (st .floating);
       marked = st .marked;
     })
@@ -77,7 +77,7 @@ abbrev pub O32 : Convention
 O32 = record {
   State = State;
   Place = Placement;
-  start = record { end = 0; count = 0; pointers = 0; floating = false; marked = false };
+  start = record { end = 0; count = 0; pointer = false; floating = false; marked = false };
   step = λ st k. stepped st (kindOf k);
   placed = λ k p. record { kind = k; size = p .kind .size; extension = extension (p .kind); carriers = carriers p };
   fits = λ st. leb (st .end) 1024;
