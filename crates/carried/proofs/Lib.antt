@@ -2,3 +2,4 @@ pub mod Places
 pub mod Readings
 pub mod Walks
 pub mod Theorem
+pub mod Records

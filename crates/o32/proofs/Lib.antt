@@ -2,3 +2,4 @@ pub mod KindFacts
 pub mod Laws
 pub mod Cases
 pub mod Answers
+pub mod Measures

@@ -1,15 +1,15 @@
 // The O32 convention: what a kind byte means, where its argument goes, and the walk over the records of a list or a
 // signature.
-ghost use mathlib.Core.Bool.{_||_, cond, false};
+ghost use mathlib.Core.Bool.{_||_, cond, false, true};
 ghost use mathlib.Core.Path.{_≡_};
-ghost use Prim.Native.Nat.{_≤_};
+ghost use Prim.Native.Nat.{_≤_, ℕ};
 ghost use lib.Dec.{eqb};
-ghost use Rattle.carried.specs.Convention.{behind, take};
+ghost use Rattle.carried.specs.Convention.{behind, plan, take};
 ghost use Rattle.o32.specs.declared.Class.the-variants.{Float, Pointer};
 ghost use Rattle.o32.specs.Kinds.{is, kindOf, number};
 ghost use Rattle.o32.specs.O32.{O32, full, misplaced, onward, register};
 ghost use Rattle.o32.specs.Offsets.{Alignment, ending, up, width};
-ghost use Rattle.o32.specs.Records.{recordOf};
+ghost use Rattle.o32.specs.Records.{measured, recordOf};
 
 // How an argument of a kind is passed.
 pub enum Class {
@@ -248,6 +248,19 @@ fn state_behind(st: State, kind: Kind) -> State
     }
 }
 
+// The state before the first record.
+pub fn start() -> State
+    ensures { λ r. ⌜ r ≡ O32 .start ⌝ }
+{
+    State {
+        end: 0,
+        count: 0,
+        pointer: false,
+        floating: false,
+        marked: false,
+    }
+}
+
 // How many bytes stand behind a kind byte: in a list the body, in a signature none.
 pub fn body_behind(bodies: bool, size: usize) -> usize
     ensures { λ r. ⌜ r ≡ behind bodies size ⌝ }
@@ -288,4 +301,50 @@ pub fn take(st: State, byte: u8, bodies: bool, left: usize) -> Record
         },
         next,
     }
+}
+
+// A refused record's answer, as that of the whole.
+fn refusal(answer: Record, place: usize) -> Measured
+    ensures { λ r. ⌜ ((n : ℕ) → answer ≡ Record.Refused n → r ≡ Measured.Refused n place) ⌝ }
+{
+    match answer {
+        Record::Refused(number) => Measured::Refused { number, place },
+        _ => Measured::Accepted { count: 0, end: 0 },
+    }
+}
+
+// The walk over the records of a list (bodies) or of a signature.
+fn measure(records: &[u8], bodies: bool) -> Measured
+    ensures { λ r. ⌜ r ≡ measured (plan O32 bodies (now (records .entry))) ⌝ }
+{
+    let mut st = start();
+    let mut at = 0;
+    while at < records.len() {
+        let left = records.len() - (at + 1);
+        let answer = take(st, records[at], bodies, left);
+        let Record::Taken { placement, next } = answer else {
+            return refusal(answer, at);
+        };
+        let kind = placement.kind;
+        at = at + 1 + body_behind(bodies, kind.size);
+        st = next;
+    }
+    Measured::Accepted {
+        count: st.count,
+        end: st.end,
+    }
+}
+
+// The records of a list: refusals 1 to 5 with their place, or the count of arguments and the last one's end.
+pub fn measure_list(list: &[u8]) -> Measured
+    ensures { λ r. ⌜ r ≡ measured (plan O32 true (now (list .entry))) ⌝ }
+{
+    measure(list, true)
+}
+
+// The records of a signature: refusals 1, 2, 3 and 5 with their place, or the count of arguments and the last one's end.
+pub fn measure_signature(signature: &[u8]) -> Measured
+    ensures { λ r. ⌜ r ≡ measured (plan O32 false (now (signature .entry))) ⌝ }
+{
+    measure(signature, false)
 }
