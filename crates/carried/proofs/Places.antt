@@ -7,7 +7,8 @@ use Prim.Native.Nat.{ℕ, suc, _<_}
 use native.Mathlib.Omega.{arith}
 use lib.ListN.{length, getD, set, drop, length-set}
 use lib.Seq.{getD-set-same, getD-set-other}
-use Rattle.carried.specs.Image.{In, Distinct, gather, put}
+use Rattle.carried.specs.Image.{gather, put}
+use Rattle.carried.specs.Demand.{In, Distinct}
 
 pub length-gather : (img ps : List ℕ) → length (gather img ps) ≡ length ps
 length-gather img [] = refl

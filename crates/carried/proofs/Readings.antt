@@ -11,8 +11,8 @@ use lib.Seq.{take-at, drop-at}
 use lib.Dec.{T}
 use Rattle.words.specs.Words.{promote, front, body, same, proper}
 use Rattle.words.proofs.Bytes.{same→eq}
-use Rattle.carried.specs.Image.{In, Placed, gather, put, carried, promotedBytes, image, reading, Answer, done, refused, checked}
-use Rattle.carried.specs.Demand.{Sized, OneEach}
+use Rattle.carried.specs.Image.{Placed, gather, put, carried, promotedBytes, image, reading, Answer, done, refused, checked}
+use Rattle.carried.specs.Demand.{In, Sized, OneEach}
 use Rattle.carried.proofs.Places.{length-gather, gather-append, length-put, getD-put-other, gather-put, gather-agree, agree-gather, in-left, in-right}
 
 -- the image's bytes of one record

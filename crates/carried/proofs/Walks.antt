@@ -9,9 +9,9 @@ use lib.ListN.{length, length-append}
 use lib.Dec.{ltb}
 use borrow.Author.Tests.{le-ltb}
 use Rattle.words.specs.Words.{promote, body}
-use Rattle.carried.specs.Image.{In, Distinct, Placed, carried, reading}
+use Rattle.carried.specs.Image.{Placed, carried, reading}
 use Rattle.carried.specs.Convention.{Step, refuse, next, Convention, Plan, bad, good, also, behind, limited, take, after, from}
-use Rattle.carried.specs.Demand.{Sized, kinds, OneEach}
+use Rattle.carried.specs.Demand.{In, Distinct, Sized, kinds, OneEach}
 use Rattle.carried.proofs.Places.{in-cases, distinct-append}
 use Rattle.carried.proofs.Readings.{bytesIn, length-body, fits-carriers}
 

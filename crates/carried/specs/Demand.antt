@@ -1,12 +1,22 @@
 -- The carried-bytes theorem, as a statement about the writer and the reader of a convention.
 use mathlib.Core.Path.{_≡_}
-use mathlib.Core.Logic.{_↔_}
+use mathlib.Core.Logic.{_⊎_, _↔_}
 use mathlib.Core.List.{List, [], _∷_}
 use Prim.Native.Nat.{ℕ, _<_}
 use lib.ListN.{length, getD}
 use Rattle.words.specs.Words.{promote}
-use Rattle.carried.specs.Image.{In, Distinct, Placed, carried, done}
+use Rattle.carried.specs.Image.{Placed, carried, done}
 use Rattle.carried.specs.Convention.{Convention, write, read}
+
+-- p is one of these image bytes.
+abbrev pub In : ℕ → List ℕ → Type 0
+In p [] = ⊥
+In p (q ∷ qs) = (p ≡ q) ⊎ In p qs
+
+-- No image byte stands in it twice.
+abbrev pub Distinct : List ℕ → Type 0
+Distinct [] = Unit {0}
+Distinct (p ∷ ps) = (In p ps → ⊥) × Distinct ps
 
 -- Each byte of an argument after promotion has its entry among the argument's carriers.
 abbrev pub Sized : List Placed → Type 0

@@ -1,23 +1,11 @@
 -- What it means that bytes of an image carry arguments ("The image"). Nothing here belongs to one convention.
-use mathlib.Core.Path.{_≡_}
-use mathlib.Core.Logic.{_⊎_}
 use mathlib.Core.List.{List, [], _∷_, _++_}
 use mathlib.Core.Bool.{Bool, cond}
 use Prim.Native.Nat.{ℕ, suc}
 use lib.ListN.{length, getD, set, take, drop, replicate}
 use Rattle.words.specs.Words.{Extension, promote, body, proper}
 
--- An image byte is a number, its offset in the image. p is one of ps:
-abbrev pub In : ℕ → List ℕ → Type 0
-In p [] = ⊥
-In p (q ∷ qs) = (p ≡ q) ⊎ In p qs
-
--- No image byte stands in it twice.
-abbrev pub Distinct : List ℕ → Type 0
-Distinct [] = Unit {0}
-Distinct (p ∷ ps) = (In p ps → ⊥) × Distinct ps
-
--- What an image holds at these bytes, in order.
+-- What an image holds at these bytes, in order. An image byte is a number, its offset in the image.
 abbrev pub gather : List ℕ → List ℕ → List ℕ
 gather img [] = []
 gather img (p ∷ ps) = getD img p 0 ∷ gather img ps

@@ -1,5 +1,1 @@
-pub mod KindFacts
-pub mod Laws
 pub mod Cases
-pub mod Answers
-pub mod Measures

@@ -1,7 +1,5 @@
 -- Placement rules 1 and 2: the bytes of an argument, and its offset. Nothing here knows of registers.
 use mathlib.Core.Bool.{true, false, cond, _||_}
-use mathlib.Core.Logic.{_⊎_}
-use mathlib.Core.Path.{_≡_}
 use Prim.Native.Nat.{ℕ, _+_, _-_, _*_, _/_}
 use Rattle.words.specs.Words.{Extension, zeros, toWord}
 use Rattle.o32.specs.declared.Class.the-variants.{Signed, Unsigned}
@@ -15,10 +13,6 @@ extension k = cond (is Signed k) (toWord true (k .size)) (cond (is Unsigned k) (
 -- How many bytes an argument has after promotion, without fill.
 abbrev pub width : Kind → ℕ
 width k = cond (is Signed k || is Unsigned k) 4 (k .size)
-
--- The alignments there are: 4, 8, or none.
-abbrev pub Alignment : ℕ → Type 0
-Alignment a = (a ≡ 0) ⊎ (a ≡ 4) ⊎ (a ≡ 8)
 
 -- The next multiple of a, from n on.
 abbrev pub up : ℕ → ℕ → ℕ

@@ -1,0 +1,2 @@
+pub mod KindFacts
+pub mod Laws

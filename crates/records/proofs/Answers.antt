@@ -1,0 +1,186 @@
+-- What each return of the record step and of the functions under it answers, by the tests that led there.
+-- Assumes nothing.
+use mathlib.Core.Path.{_≡_, refl, sym, ap, ap₂, _∙_, subst}
+use mathlib.Core.Logic.{_⊎_, inl, inr}
+use mathlib.Core.Bool.{Bool, true, false, cond, not, _&&_, _||_, or-true, or-false, and-false}
+use Prim.Native.Nat.{ℕ, zero, suc, _+_, _-_, _*_, _/_, _≤_, _<_}
+use native.Mathlib.Omega.{arith}
+use native.Mathlib.Nat.{mul-zero}
+use lib.Dec.{eqb, leb, ltb, eqb·suc-zero, leb·suc-zero}
+use borrow.Author.Tests.{eqb-true, ne-eqb, eq-eqb, le-leb, lt-leb, leb-false, lt-ltb, le-ltb}
+use Rattle.carried.specs.Convention.{Step, refuse, next, behind, limited, take}
+use Rattle.o32.specs.declared.Class.{Class}
+use Rattle.o32.specs.declared.Class.the-variants.{Unknown, Marker, Pointer, Signed, Unsigned, Float, Plain}
+use Rattle.o32.specs.declared.Kind.{Kind}
+use Rattle.o32.specs.declared.State.{State}
+use Rattle.o32.specs.declared.Placement.{Placement}
+use Rattle.records.specs.declared.Record.{Record}
+use Rattle.records.specs.declared.Record.the-variants as R
+use Rattle.o32.specs.Kinds.{kindOf, is, number}
+use Rattle.o32.specs.Offsets.{width, up, offset, ending}
+use Rattle.o32.specs.O32.{O32, register, misplaced, full, onward, stepped}
+use Rattle.records.specs.Records.{Alignment, recordOf}
+use Rattle.placement.proofs.KindFacts.{Sound, kind-sound}
+use Rattle.placement.proofs.Laws.{up-ge, up-le}
+
+pub same-class : (a b : Class) (x y : ℕ) → x ≡ number a → y ≡ number b → eqb x y ≡ eqb (number a) (number b)
+same-class a b x y e f = ap₂ eqb e f
+
+-- a kind has one class
+class-is : (c : Class) (k : Kind) (t : Bool) → t ≡ is c k → t ≡ true → number (k .class) ≡ number c
+class-is c k t e h = eqb-true (number (k .class)) (number c) (sym e ∙ h)
+
+-- ---- alignment
+
+pub up-eight : (a n : ℕ) → a ≡ 8 → (n + 7) / 8 * 8 ≡ up a n
+up-eight a n e = rw e
+
+pub up-four : (a n : ℕ) → a ≡ 4 → (n + 3) / 4 * 4 ≡ up a n
+up-four a n e = rw e
+
+pub up-none : (a n : ℕ) → Alignment a → (a ≡ 8 → ⊥) → (a ≡ 4 → ⊥) → 0 ≡ up a n
+up-none a n (inl e) f g = rw e (sym (mul-zero _))
+up-none a n (inr (inl e)) f g = absurd (g e)
+up-none a n (inr (inr e)) f g = absurd (f e)
+
+pub up-small : (a n : ℕ) → Alignment a → up a n ≤ n + 7
+up-small a n (inl e) = omega (arith, up-le a n)
+up-small a n (inr (inl e)) = omega (arith, up-le a n)
+up-small a n (inr (inr e)) = omega (arith, up-le a n)
+
+-- ---- width
+
+module _ (k : Kind) where
+  pub width-signed : (t : Bool) → t ≡ is Signed k → t ≡ true → 4 ≡ width k
+  width-signed t e h = rw (class-is Signed k t e h)
+
+  pub width-unsigned : (t : Bool) → t ≡ is Unsigned k → t ≡ true → 4 ≡ width k
+  width-unsigned t e h = rw (class-is Unsigned k t e h)
+
+  pub width-plain : (t u : Bool) → t ≡ is Signed k → t ≡ false → u ≡ is Unsigned k → u ≡ false → k .size ≡ width k
+  width-plain t u e h f g = rw (sym e ∙ h, sym f ∙ g)
+
+  pub width-le : k .size ≤ 512 → width k ≤ 512
+  width-le h = go (is Signed k || is Unsigned k)
+    where
+      go : (t : Bool) → cond t 4 (k .size) ≤ 512
+      go true = omega arith
+      go false = h
+
+-- ---- register, misplaced, full
+
+module _ (st : State) (k : Kind) where
+  pub register-plain : (t : Bool) → t ≡ is Float k → t ≡ false → 0 ≡ register st k
+  register-plain t e h = rw (sym e ∙ h)
+
+  pub register-first : (t : Bool) → t ≡ is Float k → t ≡ true → st .count ≡ 0 → 12 ≡ register st k
+  register-first t e h n = rw (sym e ∙ h, n)
+
+  pub register-late : (t : Bool) → t ≡ is Float k → t ≡ true → (st .count ≡ 0 → ⊥) → (st .count ≡ 1 → ⊥) → 0 ≡ register st k
+  register-late t e h n m = rw (sym e ∙ h, ne-eqb (st .count) 0 n, ne-eqb (st .count) 1 m)
+
+  pub register-behind : (t : Bool) → t ≡ is Float k → t ≡ true → st .count ≡ 1 → st .floating ≡ false → 0 ≡ register st k
+  register-behind t e h n f = rw (sym e ∙ h, n, f)
+
+  pub register-marked : (t : Bool) → t ≡ is Float k → t ≡ true → st .count ≡ 1 → st .floating ≡ true → st .marked ≡ true → 0 ≡ register st k
+  register-marked t e h n f m = rw (sym e ∙ h, n, f, m)
+
+  pub register-second : (t : Bool) → t ≡ is Float k → t ≡ true → st .count ≡ 1 → st .floating ≡ true → st .marked ≡ false → 14 ≡ register st k
+  register-second t e h n f m = rw (sym e ∙ h, n, f, m)
+
+  pub pointer-first : (t : Bool) → t ≡ is Pointer k → t ≡ true → not (eqb (st .count) 0) ≡ misplaced st k
+  pointer-first t e h = rw (class-is Pointer k t e h)
+
+  pub neither : (t u : Bool) → t ≡ is Pointer k → t ≡ false → u ≡ is Marker k → u ≡ false → false ≡ misplaced st k
+  neither t u e h f g = rw (sym e ∙ h, sym f ∙ g)
+
+  pub marked-twice : (u : Bool) → u ≡ is Marker k → u ≡ true → st .marked ≡ true → true ≡ misplaced st k
+  marked-twice u f g m = rw (class-is Marker k u f g, m)
+
+  early : (t : Bool) → is Marker k ≡ t → t ≡ true → st .marked ≡ false → (p : Bool) → st .pointer ≡ p → leb (st .count) (cond p 1 0) ≡ misplaced st k
+  early t f g m p e = rw (class-is Marker k t (sym f) g, m, e, or-false (leb (st .count) (cond p 1 0)))
+
+  pub marked-behind-pointer : (u : Bool) → u ≡ is Marker k → u ≡ true → st .marked ≡ false → st .pointer ≡ true → leb (st .count) 1 ≡ misplaced st k
+  marked-behind-pointer u f g m p = early u (sym f) g m true p
+
+  pub marked-first : (u : Bool) → u ≡ is Marker k → u ≡ true → st .marked ≡ false → st .pointer ≡ false → eqb (st .count) 0 ≡ misplaced st k
+  marked-first u f g m p = none (st .count) ∙ early u (sym f) g m false p
+    where
+      none : (n : ℕ) → eqb n 0 ≡ leb n 0
+      none zero = refl
+      none (suc n) = eqb·suc-zero n ∙ sym (leb·suc-zero n)
+
+  pub marker-fits : (u : Bool) → u ≡ is Marker k → u ≡ true → false ≡ full st k
+  marker-fits u f g = rw (sym f ∙ g)
+
+  pub argument-fits : (u : Bool) → u ≡ is Marker k → u ≡ false → leb 32 (st .count) ≡ full st k
+  argument-fits u f g = rw (sym f ∙ g)
+
+  -- the state behind
+  pub behind-marker : (u : Bool) → u ≡ is Marker k → u ≡ true
+      → record { end = st .end; count = st .count; pointer = st .pointer; floating = st .floating; marked = true } ≡ onward st k
+  behind-marker u f g = rw (sym f ∙ g)
+
+  pub behind-argument : (u : Bool) (e : ℕ) (p f : Bool) → u ≡ is Marker k → u ≡ false → e ≡ ending k (st .end)
+      → p ≡ st .pointer || is Pointer k → f ≡ cond (eqb (st .count) 0) (is Float k) (st .floating)
+      → record { end = e; count = st .count + 1; pointer = p; floating = f; marked = st .marked } ≡ onward st k
+  behind-argument u e p f g h x y z = rw (sym g ∙ h, x, y, z)
+
+  pub counts : (u : Bool) → u ≡ is Marker k → u ≡ false → full st k ≡ false → st .count < 32
+  counts u f g h = leb-false 32 (st .count) (argument-fits u f g ∙ h)
+
+-- ---- the record step: the tests that a record has passed, and the answer where one fails
+
+onward-grows : (st : State) (k : ℕ) → is Unknown (kindOf k) ≡ false → st .end ≤ onward st (kindOf k) .end
+onward-grows st k e = go (is Marker (kindOf k)) refl
+  where
+    go : (t : Bool) → is Marker (kindOf k) ≡ t → st .end ≤ onward st (kindOf k) .end
+    go true f = rw f (omega arith)
+    go false f = rw f (omega (arith, up-ge (kindOf k .alignment) (st .end) (kind-sound k .aligned (rw (e, f) refl))))
+
+module _ (st : State) (k : ℕ) (bodies : Bool) (left : ℕ) (kd : Kind) (e : kd ≡ kindOf k) where
+  abbrev Given : Record → Type 0
+  Given r = r ≡ recordOf (take O32 bodies left st k)
+
+  answer : (r : Record) → r ≡ recordOf (limited O32 bodies left k (stepped st kd)) → Given r
+  answer r h = h ∙ ap (λ (x : Kind). recordOf (limited O32 bodies left k (stepped st x))) e
+
+  module _ (u : Bool) (known : u ≡ is Unknown kd) where
+    pub refused-1 : u ≡ true → Given (R.Refused 1)
+    refused-1 h = answer (R.Refused 1) (rw (sym known ∙ h))
+
+    module _ (h₁ : u ≡ false) (m : Bool) (placed : m ≡ misplaced st kd) where
+      pub refused-2 : m ≡ true → Given (R.Refused 2)
+      refused-2 h = answer (R.Refused 2) (rw (sym known ∙ h₁, sym placed ∙ h))
+
+      module _ (h₂ : m ≡ false) (f : Bool) (roomy : f ≡ full st kd) where
+        pub refused-3 : f ≡ true → Given (R.Refused 3)
+        refused-3 h = answer (R.Refused 3) (rw (sym known ∙ h₁, sym placed ∙ h₂, sym roomy ∙ h))
+
+        module _ (h₃ : f ≡ false) (b : ℕ) (needed : b ≡ behind bodies (kd .size)) where
+          pub refused-4 : left < b → Given (R.Refused 4)
+          refused-4 h = answer (R.Refused 4) (rw (sym known ∙ h₁, sym placed ∙ h₂, sym roomy ∙ h₃, lt-ltb left (behind bodies (kd .size)) (rw needed at h)))
+
+          module _ (h₄ : b ≤ left) where
+            limit : (r : Record) → r ≡ recordOf (cond (leb (onward st kd .end) 1024) (next (record { kind = kd; offset = offset kd (st .end); register = register st kd }) (onward st kd)) (refuse 5)) → Given r
+            limit r h = answer r (h ∙ sym (rw (sym known ∙ h₁, sym placed ∙ h₂, sym roomy ∙ h₃, le-ltb left (behind bodies (kd .size)) (rw needed at h₄))))
+
+            pub refused-5 : 1024 < onward st kd .end → Given (R.Refused 5)
+            refused-5 h = limit (R.Refused 5) (rw (lt-leb (onward st kd .end) 1024 h))
+
+            pub refused-5-before : 1024 < st .end → Given (R.Refused 5)
+            refused-5-before h = refused-5 (omega (arith, rw (← e) at (onward-grows st k (rw (← e) (sym known ∙ h₁)))))
+
+            pub refused-5-behind : (n : State) → n ≡ onward st kd → 1024 < n .end → Given (R.Refused 5)
+            refused-5-behind n g h = refused-5 (rw g at h)
+
+            pub taken : (n : State) (o g : ℕ) → n ≡ onward st kd → n .end ≤ 1024 → o ≡ up (kd .alignment) (st .end) → g ≡ register st kd
+                → Given (R.Taken (record { kind = kd; offset = o; register = g }) n)
+            taken n o g x h y z = limit _ (rw (x, y, z) (rw (le-leb (onward st kd .end) 1024 (rw x at h))))
+
+-- what the functions under it require
+pub kind-aligned : (k : ℕ) (kd : Kind) → kd ≡ kindOf k → Alignment (kd .alignment)
+kind-aligned k kd e = rw e (kind-sound k .alignments)
+
+pub kind-small : (k : ℕ) (kd : Kind) → kd ≡ kindOf k → kd .size ≤ 512
+kind-small k kd e = rw e (kind-sound k .small)
