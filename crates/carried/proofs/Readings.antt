@@ -1,15 +1,14 @@
 -- The carried-bytes theorem for records that are already placed: readings and rewritings of accepted images.
 -- Assumes nothing.
-use mathlib.Core.Path.{_≡_, refl, sym, ap, ap₂, _∙_}
+use mathlib.Core.Path.{_≡_, refl, sym, ap, _∙_}
 use mathlib.Core.Logic.{_↔_}
 use mathlib.Core.List.{List, [], _∷_, _++_}
 use mathlib.Core.Bool.{Bool, true, false, cond}
-use Prim.Native.Nat.{ℕ, zero, suc, _+_, _-_, _≤_, _<_}
+use Prim.Native.Nat.{ℕ, zero, suc, _-_, _≤_}
 use native.Mathlib.Omega.{arith}
-use lib.ListN.{length, getD, drop, replicate, length-append, length-drop, length-replicate}
+use lib.ListN.{length, getD, replicate, length-append, length-drop, length-replicate}
 use lib.Seq.{take-at, drop-at}
-use lib.Dec.{T}
-use Rattle.words.specs.Words.{promote, front, body, same, proper}
+use Rattle.words.specs.Words.{promote, front, body, proper}
 use Rattle.words.proofs.Bytes.{same→eq}
 use Rattle.carried.specs.Image.{Placed, gather, put, carried, promotedBytes, image, reading, Answer, done, refused, checked}
 use Rattle.carried.specs.Demand.{In, Sized, OneEach}

@@ -8,10 +8,10 @@ use lib.ListN.{length}
 use lib.Dec.{eqb}
 use borrow.Author.Tests.{eqb-true, eq-eqb}
 use Rattle.carried.specs.Image.{Placed, image, reading, Answer, done, refused, checked}
-use Rattle.carried.specs.Convention.{Convention, good, plan, write, readUnder, read}
-use Rattle.carried.specs.Demand.{OneEach, Rewriting, Carried}
+use Rattle.carried.specs.Convention.{Convention, good, plan, write, read}
+use Rattle.carried.specs.Demand.{OneEach, Carried}
 use Rattle.carried.proofs.Readings as R
-use Rattle.carried.proofs.Readings.{Accepted, AllProper, Passed, checked-accepts, checked-passes}
+use Rattle.carried.proofs.Readings.{Accepted, Passed, checked-accepts, checked-passes}
 use Rattle.carried.proofs.Walks.{Laws, Walk, walk-of, walk-kinds, walk-one-each, plan-reading}
 
 done-inj : {a b : List ℕ} → done a ≡ done b → a ≡ b

@@ -1,8 +1,8 @@
 -- What it means that bytes of an image carry arguments ("The image"). Nothing here belongs to one convention.
 use mathlib.Core.List.{List, [], _∷_, _++_}
-use mathlib.Core.Bool.{Bool, cond}
+use mathlib.Core.Bool.{cond}
 use Prim.Native.Nat.{ℕ, suc}
-use lib.ListN.{length, getD, set, take, drop, replicate}
+use lib.ListN.{getD, set, take, drop, replicate}
 use Rattle.words.specs.Words.{Extension, promote, body, proper}
 
 -- What an image holds at these bytes, in order. An image byte is a number, its offset in the image.

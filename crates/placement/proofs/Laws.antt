@@ -1,16 +1,16 @@
 -- What O32 owes at each step: the image bytes of a record are new and inside the image. So the carried-bytes theorem holds of it.
 -- Assumes nothing.
-use mathlib.Core.Path.{_≡_, refl, sym, ap, _∙_, subst}
+use mathlib.Core.Path.{_≡_, refl, sym, ap, _∙_}
 use mathlib.Core.Logic.{_⊎_, inl, inr}
-use mathlib.Core.List.{List, [], _∷_, _++_, map}
-use mathlib.Core.Bool.{Bool, true, false, cond, not, _&&_, _||_}
-use Prim.Native.Nat.{ℕ, zero, suc, _+_, _-_, _*_, _/_, _%_, _≤_, _<_, max}
+use mathlib.Core.List.{List, _++_, map}
+use mathlib.Core.Bool.{Bool, true, false, cond, not, _&&_}
+use Prim.Native.Nat.{ℕ, zero, suc, _+_, _-_, _*_, _≤_, _<_}
 use native.Mathlib.Omega.{arith}
 use native.Mathlib.Nat.{div-add-mod', div-mul-le-self, mod-lt}
 use lib.ListN.{length, length-append, length-replicate, length-map}
-use lib.Dec.{eqb, leb, ltb}
+use lib.Dec.{eqb, ltb}
 use borrow.Author.Tests.{ltb-true, ltb-false, eqb-true}
-use Rattle.words.specs.Words.{Extension, zeros, signs, toWord, promote, front}
+use Rattle.words.specs.Words.{Extension, zeros, toWord, promote, front}
 use Rattle.carried.specs.Image.{Placed}
 use Rattle.carried.specs.Convention.{Step, refuse, next, good, plan}
 use Rattle.carried.specs.Demand.{In, Distinct, Carried}
@@ -22,8 +22,8 @@ use Rattle.o32.specs.declared.Class.the-variants.{Unknown, Marker, Pointer, Sig
 use Rattle.o32.specs.declared.Kind.{Kind}
 use Rattle.o32.specs.declared.State.{State}
 use Rattle.o32.specs.declared.Placement.{Placement}
-use Rattle.o32.specs.Kinds.{kindOf, is}
-use Rattle.o32.specs.Offsets.{extension, width, up, offset, ending}
+use Rattle.o32.specs.Kinds.{kindOf}
+use Rattle.o32.specs.Offsets.{extension, up, offset, ending}
 use Rattle.o32.specs.O32.{register, run, registerWord, pair, carrier, carriers, area, misplaced, full, onward, stepped, O32}
 use Rattle.placement.proofs.KindFacts.{Sound, kind-sound}
 
@@ -93,7 +93,7 @@ carrier-at o p e = go (ltb o 16) refl e
     }
 
 -- n bytes from offset o on
-abbrev span : ℕ → ℕ → List ℕ
+abbrev pub span : ℕ → ℕ → List ℕ
 span o n = map carrier (run o n)
 
 span-at : (n o p : ℕ) → In p (span o n) → Between o (o + n) p
@@ -105,7 +105,7 @@ span-distinct : (n o : ℕ) → Distinct (span o n)
 span-distinct zero o = tt
 span-distinct (suc n) o = ((λ m. carrier-at o (carrier o) refl .before (span-at n (suc o) (carrier o) m .from)), span-distinct n (suc o))
 
-length-span : (n o : ℕ) → length (span o n) ≡ n
+pub length-span : (n o : ℕ) → length (span o n) ≡ n
 length-span n o = length-map (run o n) carrier ∙ length-run n o
 
 -- ---- bytes of a floating register pair
@@ -127,7 +127,7 @@ pair-distinct f size h = go (eqb size 8)
         (λ p i j. omega (arith, run-at 4 (16 + 4 * (f - 12)) p i, run-at 4 (16 + 4 * (f + 1 - 12)) p j))
     go false = run-distinct 4 (16 + 4 * (f - 12))
 
-length-pair : (f size : ℕ) → (size ≡ 4) ⊎ (size ≡ 8) → length (pair f size) ≡ size
+pub length-pair : (f size : ℕ) → (size ≡ 4) ⊎ (size ≡ 8) → length (pair f size) ≡ size
 length-pair f size (inl e) = rw e refl
 length-pair f size (inr e) = rw e refl
 

@@ -1,26 +1,25 @@
 -- What each return of the record step and of the functions under it answers, by the tests that led there.
 -- Assumes nothing.
-use mathlib.Core.Path.{_≡_, refl, sym, ap, ap₂, _∙_, subst}
-use mathlib.Core.Logic.{_⊎_, inl, inr}
-use mathlib.Core.Bool.{Bool, true, false, cond, not, _&&_, _||_, or-true, or-false, and-false}
-use Prim.Native.Nat.{ℕ, zero, suc, _+_, _-_, _*_, _/_, _≤_, _<_}
+use mathlib.Core.Path.{_≡_, refl, sym, ap, ap₂, _∙_}
+use mathlib.Core.Logic.{inl, inr}
+use mathlib.Core.Bool.{Bool, true, false, cond, not, _||_, or-false}
+use Prim.Native.Nat.{ℕ, zero, suc, _+_, _*_, _/_, _≤_, _<_}
 use native.Mathlib.Omega.{arith}
 use native.Mathlib.Nat.{mul-zero}
-use lib.Dec.{eqb, leb, ltb, eqb·suc-zero, leb·suc-zero}
-use borrow.Author.Tests.{eqb-true, ne-eqb, eq-eqb, le-leb, lt-leb, leb-false, lt-ltb, le-ltb}
-use Rattle.carried.specs.Convention.{Step, refuse, next, behind, limited, take}
+use lib.Dec.{eqb, leb, eqb·suc-zero, leb·suc-zero}
+use borrow.Author.Tests.{eqb-true, ne-eqb, le-leb, lt-leb, leb-false, lt-ltb, le-ltb}
+use Rattle.carried.specs.Convention.{refuse, next, behind, limited, take}
 use Rattle.o32.specs.declared.Class.{Class}
-use Rattle.o32.specs.declared.Class.the-variants.{Unknown, Marker, Pointer, Signed, Unsigned, Float, Plain}
+use Rattle.o32.specs.declared.Class.the-variants.{Unknown, Marker, Pointer, Signed, Unsigned, Float}
 use Rattle.o32.specs.declared.Kind.{Kind}
 use Rattle.o32.specs.declared.State.{State}
-use Rattle.o32.specs.declared.Placement.{Placement}
 use Rattle.records.specs.declared.Record.{Record}
 use Rattle.records.specs.declared.Record.the-variants as R
 use Rattle.o32.specs.Kinds.{kindOf, is, number}
 use Rattle.o32.specs.Offsets.{width, up, offset, ending}
 use Rattle.o32.specs.O32.{O32, register, misplaced, full, onward, stepped}
 use Rattle.records.specs.Records.{Alignment, recordOf}
-use Rattle.placement.proofs.KindFacts.{Sound, kind-sound}
+use Rattle.placement.proofs.KindFacts.{kind-sound}
 use Rattle.placement.proofs.Laws.{up-ge, up-le}
 
 pub same-class : (a b : Class) (x y : ℕ) → x ≡ number a → y ≡ number b → eqb x y ≡ eqb (number a) (number b)

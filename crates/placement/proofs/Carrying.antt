@@ -1,0 +1,249 @@
+-- The law of carried bytes, for every argument of every accepted signature.
+-- Assumes nothing.
+use mathlib.Core.Path.{_≡_, refl, sym, ap, _∙_, subst}
+use mathlib.Core.Logic.{_⊎_, inl, inr}
+use mathlib.Core.List.{List, [], _∷_, _++_, map}
+use mathlib.Core.Bool.{Bool, true, false, cond, _&&_, and-false}
+use Prim.Native.Nat.{ℕ, zero, suc, _+_, _-_, _*_, _≤_, _<_}
+use native.Mathlib.Omega.{arith}
+use lib.ListN.{length, getD, List·getD-append}
+use lib.Seq.{getD-append-add}
+use lib.Dec.{eqb}
+use borrow.Author.Tests.{lt-ltb, le-ltb, ne-eqb, eqb-true}
+use Rattle.carried.specs.Image.{Placed}
+use Rattle.carried.specs.Convention.{Step, refuse, next, good, plan}
+use Rattle.carried.proofs.Walks.{Walk, one, walk-of}
+use Rattle.o32.specs.declared.Class.the-variants.{Unknown, Marker, Float}
+use Rattle.o32.specs.declared.Kind.{Kind}
+use Rattle.o32.specs.declared.State.{State}
+use Rattle.o32.specs.declared.Placement.{Placement}
+use Rattle.o32.specs.Kinds.{kindOf, is, number}
+use Rattle.o32.specs.Offsets.{width, offset, ending}
+use Rattle.o32.specs.O32.{register, run, registerWord, pair, carrier, carriers, misplaced, full, onward, stepped, O32}
+use Rattle.placement.specs.Carrying.{endOf, registerBehind, CarriedAt}
+use Rattle.placement.proofs.KindFacts.{kind-sound}
+use Rattle.placement.proofs.Laws.{O32-laws, length-span, length-pair}
+
+-- ---- what a step that places a record says
+
+abbrev placement : State → Kind → Placement
+placement st k = record { kind = k; offset = offset k (st .end); register = register st k }
+
+record Stepped (st : State) (k : Kind) (p : Placement) (st′ : State) : Type 0 where
+  at : p ≡ placement st k
+  on : st′ ≡ onward st k
+  rightly : misplaced st k ≡ false
+
+abbrev Says : State → Kind → Step Placement State → Type 0
+Says st k (refuse r) = Unit {0}
+Says st k (next p st′) = Stepped st k p st′
+
+says : (st : State) (k : Kind) → Says st k (stepped st k)
+says st k = go (is Unknown k) (misplaced st k) (full st k) refl
+  where
+    go : (u m f : Bool) → misplaced st k ≡ m → Says st k (cond u (refuse 1) (cond m (refuse 2) (cond f (refuse 3) (next (placement st k) (onward st k)))))
+    go true m f e = tt
+    go false true f e = tt
+    go false false true e = tt
+    go false false false e = record { at = refl; on = refl; rightly = e }
+
+-- ---- the state behind some kinds
+
+abbrev reach : State → List ℕ → State
+reach st [] = st
+reach st (k ∷ ks) = reach (onward st (kindOf k)) ks
+
+onward-end : (st : State) (k : Kind) → onward st k .end ≡ cond (is Marker k) (st .end) (ending k (st .end))
+onward-end st k = go (is Marker k) refl
+  where
+    go : (t : Bool) → is Marker k ≡ t → onward st k .end ≡ cond (is Marker k) (st .end) (ending k (st .end))
+    go true e = rw e
+    go false e = rw e
+
+reach-end : (ks : List ℕ) (st : State) → reach st ks .end ≡ endOf (st .end) ks
+reach-end [] st = refl
+reach-end (k ∷ ks) st = reach-end ks (onward st (kindOf k)) ∙ ap (λ (e : ℕ). endOf e ks) (onward-end st (kindOf k))
+
+-- a state in which no float gets a floating register any more
+abbrev Late : State → Type 0
+Late st = (2 ≤ st .count) ⊎ ((1 ≤ st .count) × (st .marked ≡ true))
+
+late-on : (st : State) (k : Kind) → Late st → Late (onward st k)
+late-on st k h = go (is Marker k) refl h
+  where
+    go : (t : Bool) → is Marker k ≡ t → Late st → Late (onward st k)
+    go true e (inl n) = inl (rw e n)
+    go true e (inr n) = inr (rw e (n .0, refl))
+    go false e (inl n) = inl (rw e (omega arith))
+    go false e (inr n) = inr (rw e (omega arith, n .1))
+
+late-reach : (ks : List ℕ) (st : State) → Late st → Late (reach st ks)
+late-reach [] st h = h
+late-reach (k ∷ ks) st h = late-reach ks (onward st (kindOf k)) (late-on st (kindOf k) h)
+
+late-register : (st : State) (k : Kind) → Late st → register st k ≡ 0
+late-register st k (inl n) = rw (ne-eqb (st .count) 0 (λ e. omega arith), ne-eqb (st .count) 1 (λ e. omega arith), and-false (is Float k))
+late-register st k (inr n) = rw (ne-eqb (st .count) 0 (λ e. omega arith), n .1, and-false (is Float k), and-false (is Float k && eqb (st .count) 1 && st .floating))
+
+-- ---- a walk over an accepted signature, taken apart at its first record
+
+record First (st : State) (k : ℕ) (ks : List ℕ) (L : List Placed) (last : State) : Type 0 where
+  place : Placement
+  behind : State
+  rest : List Placed
+  stepped-so : Stepped st (kindOf k) place behind
+  records : L ≡ O32 .placed k place ∷ rest
+  walk : Walk O32 O32-laws behind ks rest last
+
+first : {st : State} {k : ℕ} {ks : List ℕ} {L : List Placed} {last : State} → Walk O32 O32-laws st (k ∷ ks) L last → First st k ks L last
+first {st} (one {st′ = st′} {k = k} {p = p} {L = L} e f w) = record {
+  place = p;
+  behind = st′;
+  rest = L;
+  stepped-so = subst (Says st (kindOf k)) e (says st (kindOf k));
+  records = refl;
+  walk = w;
+}
+
+-- the walk behind the first record, from the state that the record leads to
+then : {st : State} {k : ℕ} {ks : List ℕ} {L : List Placed} {last : State} (w : First st k ks L last) → Walk O32 O32-laws (onward st (kindOf k)) ks (w .rest) last
+then {ks = ks} {last = last} w = subst (λ (x : State). Walk O32 O32-laws x ks (w .rest) last) (w .stepped-so .on) (w .walk)
+
+-- the record of this kind has the bytes of its placement in the state behind the kinds before
+placed-so : (before : List ℕ) (st : State) (k : ℕ) (behind : List ℕ) (L : List Placed) (last : State) → Walk O32 O32-laws st (before ++ (k ∷ behind)) L last
+    → (M : List Placed) (s : Placed) (N : List Placed) → L ≡ M ++ (s ∷ N) → length M ≡ length before → s .carriers ≡ carriers (placement (reach st before) (kindOf k))
+placed-so [] st k behind L last w [] s N e h =
+    let a : First st k behind L last = first w in
+    let i : s ≡ O32 .placed k (a .place) = cc (a .records) in
+    ap (λ (x : Placed). x .carriers) i ∙ ap carriers (a .stepped-so .at)
+placed-so [] st k behind L last w (m ∷ M) s N e h = absurd (omega arith)
+placed-so (j ∷ before) st k behind L last w [] s N e h = absurd (omega arith)
+placed-so (j ∷ before) st k behind L last w (m ∷ M) s N e h =
+    let a : First st j (before ++ (k ∷ behind)) L last = first w in
+    let i : a .rest ≡ M ++ (s ∷ N) = cc (a .records) in
+    placed-so before (onward st (kindOf j)) k behind (a .rest) last (then a) M s N i (omega arith)
+
+-- ---- rule 3 by the kinds before
+
+no-marker-first : (k : Kind) → misplaced (O32 .start) k ≡ false → is Marker k ≡ false
+no-marker-first k h = go (is Marker k) refl
+  where
+    go : (t : Bool) → is Marker k ≡ t → is Marker k ≡ false
+    go false e = e
+    go true e = let z : true ≡ false = rw e at h in cc
+
+register-so : (before : List ℕ) (k : ℕ) (behind : List ℕ) (L : List Placed) (last : State) → Walk O32 O32-laws (O32 .start) (before ++ (k ∷ behind)) L last
+    → register (reach (O32 .start) before) (kindOf k) ≡ registerBehind before k
+register-so [] k behind L last w = go (is Float (kindOf k)) refl
+  where
+    go : (t : Bool) → is Float (kindOf k) ≡ t → register (O32 .start) (kindOf k) ≡ cond (is Float (kindOf k)) 12 0
+    go true e = rw e
+    go false e = rw e
+register-so (j ∷ []) k behind L last w =
+    let n : is Marker (kindOf j) ≡ false = no-marker-first (kindOf j) (first w .stepped-so .rightly) in
+    go n (is Float (kindOf j)) (is Float (kindOf k)) refl refl
+  where
+    go : is Marker (kindOf j) ≡ false → (t u : Bool) → is Float (kindOf j) ≡ t → is Float (kindOf k) ≡ u
+        → register (onward (O32 .start) (kindOf j)) (kindOf k) ≡ cond (is Float (kindOf j) && is Float (kindOf k)) 14 0
+    go n true true d e = rw (n, d, e)
+    go n true false d e = rw (n, d, e)
+    go n false true d e = rw (n, d, e)
+    go n false false d e = rw (n, d, e)
+register-so (j ∷ i ∷ js) k behind L last w =
+    let n : is Marker (kindOf j) ≡ false = no-marker-first (kindOf j) (first w .stepped-so .rightly) in
+    late-register (reach (O32 .start) (j ∷ i ∷ js)) (kindOf k) (late-reach js (onward (onward (O32 .start) (kindOf j)) (kindOf i)) (go n (is Marker (kindOf i)) refl))
+  where
+    go : is Marker (kindOf j) ≡ false → (t : Bool) → is Marker (kindOf i) ≡ t → Late (onward (onward (O32 .start) (kindOf j)) (kindOf i))
+    go n true e = inr (rw (e, n) (omega arith, refl))
+    go n false e = inl (rw (e, n) (omega arith))
+
+-- ---- the bytes of a placement, one by one
+
+getD-run : (n p i : ℕ) → i < n → getD (run p n) i 0 ≡ p + i
+getD-run zero p i h = absurd (omega arith)
+getD-run (suc n) p zero h = omega arith
+getD-run (suc n) p (suc i) h = getD-run n (suc p) i (omega arith) ∙ omega arith
+
+getD-span : (n o i : ℕ) → i < n → getD (map carrier (run o n)) i 0 ≡ carrier (o + i)
+getD-span zero o i h = absurd (omega arith)
+getD-span (suc n) o zero h = let e : o ≡ o + 0 = omega arith in ap carrier e
+getD-span (suc n) o (suc i) h = let e : suc o + i ≡ o + suc i = omega arith in getD-span n (suc o) i (omega arith) ∙ ap carrier e
+
+carrier-low : (o : ℕ) → o < 16 → carrier o ≡ o
+carrier-low o h = rw (lt-ltb o 16 h)
+
+carrier-high : (o : ℕ) → 16 ≤ o → carrier o ≡ 32 + o
+carrier-high o h = rw (le-ltb o 16 h)
+
+getD-even : (f size i : ℕ) → i < 4 → getD (pair f size) i 0 ≡ 16 + 4 * (f - 12) + i
+getD-even f size i h = go (eqb size 8)
+  where
+    go : (t : Bool) → getD (cond t (registerWord f ++ registerWord (f + 1)) (registerWord f)) i 0 ≡ 16 + 4 * (f - 12) + i
+    go true = List·getD-append (registerWord f) (registerWord (f + 1)) 0 i h ∙ getD-run 4 (16 + 4 * (f - 12)) i h
+    go false = getD-run 4 (16 + 4 * (f - 12)) i h
+
+getD-odd : (f size i : ℕ) → i < 4 → 4 + i < length (pair f size) → getD (pair f size) (4 + i) 0 ≡ 16 + 4 * (f + 1 - 12) + i
+getD-odd f size i h l = go (eqb size 8) l
+  where
+    go : (t : Bool) → 4 + i < length (cond t (registerWord f ++ registerWord (f + 1)) (registerWord f))
+        → getD (cond t (registerWord f ++ registerWord (f + 1)) (registerWord f)) (4 + i) 0 ≡ 16 + 4 * (f + 1 - 12) + i
+    go true l = getD-append-add (registerWord f) (registerWord (f + 1)) i 0 ∙ getD-run 4 (16 + 4 * (f + 1 - 12)) i h
+    go false l = absurd (omega arith)
+
+-- only floats have a floating register
+floats-only : (before : List ℕ) (k : ℕ) → 1 ≤ registerBehind before k → is Float (kindOf k) ≡ true
+floats-only [] k h = go (is Float (kindOf k)) h
+  where
+    go : (t : Bool) → 1 ≤ cond t 12 0 → t ≡ true
+    go true h = refl
+    go false h = absurd (omega arith)
+floats-only (j ∷ []) k h = go (is Float (kindOf j)) (is Float (kindOf k)) h
+  where
+    go : (t u : Bool) → 1 ≤ cond (t && u) 14 0 → u ≡ true
+    go t true h = refl
+    go true false h = absurd (omega arith)
+    go false false h = absurd (omega arith)
+floats-only (j ∷ i ∷ js) k h = absurd (omega arith)
+
+float-width : (k : Kind) → is Float k ≡ true → width k ≡ k .size
+float-width k e = rw (eqb-true (number (k .class)) 5 e)
+
+-- ---- the law
+
+module _ (before : List ℕ) (k : ℕ) (cs : List ℕ)
+    (so : cs ≡ carriers (record { kind = kindOf k; offset = offset (kindOf k) (endOf 0 before); register = registerBehind before k })) where
+  by-offset : registerBehind before k ≡ 0 → cs ≡ map carrier (run (offset (kindOf k) (endOf 0 before)) (width (kindOf k)))
+  by-offset z = so ∙ rw z
+
+  by-register : 1 ≤ registerBehind before k → cs ≡ pair (registerBehind before k) (kindOf k .size)
+  by-register h = so ∙ rw (ne-eqb (registerBehind before k) 0 (λ e. omega arith))
+
+  carried-long : (r : ℕ) → registerBehind before k ≡ r → length cs ≡ width (kindOf k)
+  carried-long zero e = ap length (by-offset e) ∙ length-span (width (kindOf k)) (offset (kindOf k) (endOf 0 before))
+  carried-long (suc r) e =
+      let f : is Float (kindOf k) ≡ true = floats-only before k (omega arith) in
+      ap length (by-register (omega arith)) ∙ length-pair (registerBehind before k) (kindOf k .size) (kind-sound k .floats f) ∙ sym (float-width (kindOf k) f)
+
+  at-byte : registerBehind before k ≡ 0 → (o i : ℕ) → o ≡ offset (kindOf k) (endOf 0 before) → i < length cs → getD cs i 0 ≡ carrier (o + i)
+  at-byte z o i e h =
+      ap (λ (x : List ℕ). getD x i 0) (by-offset z) ∙ getD-span (width (kindOf k)) (offset (kindOf k) (endOf 0 before)) i (omega (arith, carried-long 0 z)) ∙ rw e
+
+  law : CarriedAt before k cs
+  law = record {
+    long = carried-long (registerBehind before k) refl;
+    low = λ z o i e h l. at-byte z o i e h ∙ carrier-low (o + i) l;
+    high = λ z o i e h l. at-byte z o i e h ∙ carrier-high (o + i) l;
+    even = λ f e h i l. rw (← e) (ap (λ (x : List ℕ). getD x i 0) (by-register (omega arith)) ∙ getD-even (registerBehind before k) (kindOf k .size) i l);
+    odd = λ f e h i l m.
+        let q : cs ≡ pair (registerBehind before k) (kindOf k .size) = by-register (omega arith) in
+        rw (← e) (ap (λ (x : List ℕ). getD x (4 + i) 0) q ∙ getD-odd (registerBehind before k) (kindOf k .size) i l (rw q at m));
+  }
+
+-- At every accepted signature, the record of every kind byte is carried so.
+pub carried-at : (before : List ℕ) (k : ℕ) (behind : List ℕ) (L : List Placed) (last : State) → plan O32 false (before ++ (k ∷ behind)) ≡ good L last
+    → (M : List Placed) (s : Placed) (N : List Placed) → L ≡ M ++ (s ∷ N) → length M ≡ length before → CarriedAt before k (s .carriers)
+carried-at before k behind L last ok M s N e h =
+    let w : Walk O32 O32-laws (O32 .start) (before ++ (k ∷ behind)) L last = walk-of O32 O32-laws (before ++ (k ∷ behind)) (O32 .start) L last 0 ok in
+    law before k (s .carriers)
+    (placed-so before (O32 .start) k behind L last w M s N e h
+    ∙ rw (reach-end before (O32 .start), register-so before k behind L last w))
