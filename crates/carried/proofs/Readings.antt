@@ -11,7 +11,7 @@ use lib.Seq.{take-at, drop-at}
 use Rattle.words.specs.Words.{promote, front, body, proper}
 use Rattle.words.proofs.Bytes.{same→eq}
 use Rattle.carried.specs.Image.{Placed, gather, put, carried, promotedBytes, image, reading, Answer, done, refused, checked}
-use Rattle.carried.specs.Demand.{In, Sized, OneEach}
+use Rattle.carried.specs.Demand.{In, Sized, OneEach, AllProper, Accepted}
 use Rattle.carried.proofs.Places.{length-gather, gather-append, length-put, getD-put-other, gather-put, gather-agree, agree-gather, in-left, in-right}
 
 -- the image's bytes of one record
@@ -20,15 +20,6 @@ bytesIn s img = gather img (s .carriers)
 
 abbrev pub isProper : Placed → List ℕ → Bool
 isProper s img = proper (s .extension) (s .size) (bytesIn s img)
-
-abbrev pub AllProper : List Placed → List ℕ → Type 0
-AllProper [] img = Unit {0}
-AllProper (s ∷ L) img = (isProper s img ≡ true) × AllProper L img
-
--- an image that is not refused by 6 or 8
-pub record Accepted (n : ℕ) (L : List Placed) (img : List ℕ) : Type 0 where
-  pub whole : length img ≡ n
-  pub promoted : AllProper L img
 
 abbrev pub rewriting : ℕ → List Placed → List ℕ → List ℕ
 rewriting n L img = image n L (reading L img)
@@ -48,7 +39,7 @@ promotion-of : (s : Placed) (img : List ℕ) → isProper s img ≡ true → pro
 promotion-of s img e = same→eq (promote (s .extension) (body (s .size) (bytesIn s img))) (bytesIn s img) (rw e tt)
 
 -- so the bytes of the reading's arguments after promotion are the carried bytes
-promoted-reading : (L : List Placed) (img : List ℕ) → Sized L → AllProper L img → promotedBytes L (reading L img) ≡ gather img (carried L)
+pub promoted-reading : (L : List Placed) (img : List ℕ) → Sized L → AllProper L img → promotedBytes L (reading L img) ≡ gather img (carried L)
 promoted-reading [] img z t = refl
 promoted-reading (s ∷ L) img z t =
     let b : List ℕ = body (s .size) (bytesIn s img) in

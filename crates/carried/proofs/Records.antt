@@ -11,7 +11,7 @@ use lib.ListN.{length, getD, drop, length-drop}
 use lib.Seq.{drop-cons, drop-drop, drop-length}
 use lib.Dec.{ltb}
 use borrow.Author.Tests.{ltb-false}
-use Rattle.carried.specs.Convention.{Step, refuse, next, Convention, Plan, bad, good, also, behind, limited, take, after, from}
+use Rattle.carried.specs.Convention.{Step, refuse, next, Convention, Plan, bad, good, also, behind, limited, taken, after, from}
 
 module _ (c : Convention) (bodies : Bool) where
   pass-body : (n at : ℕ) (st : c .State) (l : List ℕ) → n ≤ length l → from c bodies at st n l ≡ from c bodies (at + n) st 0 (drop n l)
@@ -20,18 +20,18 @@ module _ (c : Convention) (bodies : Bool) where
   pass-body (suc n) at st (b ∷ l) h = pass-body n (suc at) st l (omega arith) ∙ rw (suc-add, ← add-suc)
 
   -- a record that is taken has its body
-  abbrev Uncut : ℕ → ℕ → Step (c .Place) (c .State) → Type 0
+  abbrev Uncut : ℕ → ℕ → Step (c .Placement) (c .State) → Type 0
   Uncut left k (refuse r) = Unit {0}
-  Uncut left k (next p st) = behind bodies (c .placed k p .size) ≤ left
+  Uncut left k (next p st) = behind bodies (c .placedAt k p .size) ≤ left
 
-  uncut : (left k : ℕ) (s : Step (c .Place) (c .State)) → Uncut left k (limited c bodies left k s)
+  uncut : (left k : ℕ) (s : Step (c .Placement) (c .State)) → Uncut left k (limited c bodies left k s)
   uncut left k (refuse r) = tt
-  uncut left k (next p st) = go (ltb left (behind bodies (c .placed k p .size))) refl (c .fits st)
+  uncut left k (next p st) = go (ltb left (behind bodies (c .placedAt k p .size))) refl (c .fits st)
     where
-      go : (t : Bool) → ltb left (behind bodies (c .placed k p .size)) ≡ t → (u : Bool) → Uncut left k (cond t (refuse 4) (cond u (next p st) (refuse 5)))
+      go : (t : Bool) → ltb left (behind bodies (c .placedAt k p .size)) ≡ t → (u : Bool) → Uncut left k (cond t (refuse 4) (cond u (next p st) (refuse 5)))
       go true e u = tt
       go false e false = tt
-      go false e true = ltb-false left (behind bodies (c .placed k p .size)) e
+      go false e true = ltb-false left (behind bodies (c .placedAt k p .size)) e
 
   module _ (list : List ℕ) where
     -- the plan from the record at this place on
@@ -45,8 +45,8 @@ module _ (c : Convention) (bodies : Bool) where
       abbrev pub kindAt : ℕ
       kindAt = getD list at 0
 
-      abbrev pub answered : Step (c .Place) (c .State)
-      answered = take c bodies (length list - (at + 1)) st kindAt
+      abbrev pub answered : Step (c .Placement) (c .State)
+      answered = taken c bodies (length list - (at + 1)) st kindAt
 
       here : onFrom at st ≡ after c at kindAt answered (λ size st′. from c bodies (suc at) st′ (behind bodies size) (drop (suc at) list))
       here = rw (drop-cons list at 0 h, length-drop (suc at) list, add-one at)
@@ -54,12 +54,12 @@ module _ (c : Convention) (bodies : Bool) where
       pub stopped : (r : ℕ) → answered ≡ refuse r → onFrom at st ≡ bad r at
       stopped r e = here ∙ rw e
 
-      pub within : (p : c .Place) (st′ : c .State) → answered ≡ next p st′ → at + 1 + behind bodies (c .placed kindAt p .size) ≤ length list
+      pub within : (p : c .Placement) (st′ : c .State) → answered ≡ next p st′ → at + 1 + behind bodies (c .placedAt kindAt p .size) ≤ length list
       within p st′ e = omega (arith, subst (Uncut (length list - (at + 1)) kindAt) e (uncut (length list - (at + 1)) kindAt (c .step st kindAt)))
 
-      pub passed : (p : c .Place) (st′ : c .State) → answered ≡ next p st′
-          → onFrom at st ≡ also (c .placed kindAt p) (onFrom (at + 1 + behind bodies (c .placed kindAt p .size)) st′)
+      pub passed : (p : c .Placement) (st′ : c .State) → answered ≡ next p st′
+          → onFrom at st ≡ also (c .placedAt kindAt p) (onFrom (at + 1 + behind bodies (c .placedAt kindAt p .size)) st′)
       passed p st′ e =
-          let n : ℕ = behind bodies (c .placed kindAt p .size) in
+          let n : ℕ = behind bodies (c .placedAt kindAt p .size) in
           let w : at + 1 + n ≤ length list = within p st′ e in
           here ∙ rw (e, pass-body n (suc at) st′ (drop (suc at) list) (omega (arith, length-drop (suc at) list)), drop-drop n (suc at) list, add-one at)

@@ -1,4 +1,4 @@
--- The carried-bytes theorem, of the writer and the reader of every convention whose steps give what they owe.
+-- The carried-bytes theorem, of the writer and the reader of every convention whose steps give it.
 -- Assumes nothing.
 use mathlib.Core.Path.{_≡_, refl, sym, ap, _∙_, subst}
 use mathlib.Core.List.{List}
@@ -9,9 +9,9 @@ use lib.Dec.{eqb}
 use borrow.Author.Tests.{eqb-true, eq-eqb}
 use Rattle.carried.specs.Image.{Placed, image, reading, Answer, done, refused, checked}
 use Rattle.carried.specs.Convention.{Convention, good, plan, write, read}
-use Rattle.carried.specs.Demand.{OneEach, Carried}
+use Rattle.carried.specs.Demand.{OneEach, Carried, Accepted}
 use Rattle.carried.proofs.Readings as R
-use Rattle.carried.proofs.Readings.{Accepted, Passed, checked-accepts, checked-passes}
+use Rattle.carried.proofs.Readings.{Passed, checked-accepts, checked-passes}
 use Rattle.carried.proofs.Walks.{Laws, Walk, walk-of, walk-kinds, walk-one-each, plan-reading}
 
 done-inj : {a b : List ℕ} → done a ≡ done b → a ≡ b
@@ -32,7 +32,7 @@ reads n L img = go (eqb (length img) n) refl (checked 0 L img (done (reading L i
 
 module _ (c : Convention) (laws : Laws c) (sig : List ℕ) (L : List Placed) (last : c .State) (ok : plan c false sig ≡ good L last) where
   abbrev n : ℕ
-  n = c .long last
+  n = c .imageLength last
 
   the-walk : Walk c laws (c .start) sig L last
   the-walk = walk-of c laws sig (c .start) L last 0 ok
@@ -52,10 +52,13 @@ module _ (c : Convention) (laws : Laws c) (sig : List ℕ) (L : List Placed) (la
   rewritten : (a x r : List ℕ) → reading L a ≡ x → write c x ≡ done r → R.rewriting n L a ≡ r
   rewritten a x r e w = ap (image n L) e ∙ done-inj (sym (write-reading a x e) ∙ w)
 
-  pub theorem : Carried c sig L (c .long last)
+  pub theorem : Carried c sig L (c .imageLength last)
   theorem = record {
     signature = walk-kinds c laws the-walk;
-    placed = one-each;
+    one-each = one-each;
+    accepts = to-read;
+    accepted = λ a x e. from-read a x e .0;
+    carries = λ a x e. rw (← (from-read a x e .1)) (R.promoted-reading L a (one-each .sized) (from-read a x e .0 .promoted));
     read-same = λ a b x y ea eb.
         rw (← (from-read a x ea .1), ← (from-read b y eb .1)) (R.read-same n L one-each a b (from-read a x ea .0) (from-read b y eb .0));
     rewrites = λ a x e.
@@ -64,11 +67,11 @@ module _ (c : Convention) (laws : Laws c) (sig : List ℕ) (L : List Placed) (la
         rw (← is) (record {
           rewriting = R.rewriting n L a;
           written = write-reading a (reading L a) refl;
-          long = R.accepted n L one-each a o .whole;
+          whole = R.accepted n L one-each a o .whole;
           keeps = R.keeps n L one-each a o;
           clears = R.clears n L one-each a;
           reads = to-read (R.rewriting n L a) (R.accepted n L one-each a o) ∙ ap done (R.reads-same n L one-each a o);
-          settles = λ y s e₁ e₂.
+          fixed = λ y s e₁ e₂.
               sym (rewritten (R.rewriting n L a) y s (from-read (R.rewriting n L a) y e₁ .1) e₂) ∙ ap (image n L) (R.reads-same n L one-each a o);
         });
     same-rewriting = λ a b x y r s ea eb er es.

@@ -1,4 +1,4 @@
--- What a convention owes at each step, and what follows for a whole signature: each record's bytes are new, and inside the image.
+-- What each step of a convention must give, and what follows for a whole signature: each record's bytes are new, and inside the image.
 -- Assumes nothing.
 use mathlib.Core.Path.{_≡_, refl, sym, ap₂, subst}
 use mathlib.Core.List.{List, [], _∷_, _++_}
@@ -10,37 +10,37 @@ use lib.Dec.{ltb}
 use borrow.Author.Tests.{le-ltb}
 use Rattle.words.specs.Words.{promote, body}
 use Rattle.carried.specs.Image.{Placed, carried, reading}
-use Rattle.carried.specs.Convention.{Step, refuse, next, Convention, Plan, bad, good, also, behind, limited, take, after, from}
+use Rattle.carried.specs.Convention.{Step, refuse, next, Convention, Plan, bad, good, also, behind, limited, taken, after, from}
 use Rattle.carried.specs.Demand.{In, Distinct, Sized, kinds, OneEach}
 use Rattle.carried.proofs.Places.{in-cases, distinct-append}
 use Rattle.carried.proofs.Readings.{bytesIn, length-body, fits-carriers}
 
--- Free st p: image byte p may still be given to an argument behind this state. What one step owes: the bytes that it gives
--- were free, are spent behind it, are distinct, are one for each byte of the argument, and lie in the image.
-pub record Owed (c : Convention) (Free : c .State → ℕ → Type 0) (st : c .State) (k : ℕ) (s : Placed) (st′ : c .State) : Type 0 where
+-- Free st p: image byte p may still be given to an argument behind this state. What one step must give: the
+-- bytes of its record were free, are used behind it, are distinct, are one for each byte of the argument, and lie in the image.
+pub record StepLaws (c : Convention) (Free : c .State → ℕ → Type 0) (st : c .State) (k : ℕ) (s : Placed) (st′ : c .State) : Type 0 where
   pub kind : s .kind ≡ k
   pub sized : (b : List ℕ) → length b ≡ s .size → length (promote (s .extension) b) ≡ length (s .carriers)
   pub apart : Distinct (s .carriers)
   pub free : (p : ℕ) → In p (s .carriers) → Free st p
-  pub spent : (p : ℕ) → In p (s .carriers) → Free st′ p → ⊥
+  pub used : (p : ℕ) → In p (s .carriers) → Free st′ p → ⊥
   pub keeps : (p : ℕ) → Free st′ p → Free st p
-  pub inside : (p : ℕ) → In p (s .carriers) → p < c .long st′
-  pub grows : c .long st ≤ c .long st′
+  pub inside : (p : ℕ) → In p (s .carriers) → p < c .imageLength st′
+  pub grows : c .imageLength st ≤ c .imageLength st′
 
-abbrev pub StepOwed : (c : Convention) → (c .State → ℕ → Type 0) → c .State → ℕ → Step (c .Place) (c .State) → Type 0
-StepOwed c Free st k (refuse r) = Unit {0}
-StepOwed c Free st k (next p st′) = Owed c Free st k (c .placed k p) st′
+abbrev pub StepLawful : (c : Convention) → (c .State → ℕ → Type 0) → c .State → ℕ → Step (c .Placement) (c .State) → Type 0
+StepLawful c Free st k (refuse r) = Unit {0}
+StepLawful c Free st k (next p st′) = StepLaws c Free st k (c .placedAt k p) st′
 
 pub record Laws (c : Convention) : Type 1 where
   pub Free : c .State → ℕ → Type 0
-  pub steps : (st : c .State) (k : ℕ) → StepOwed c Free st k (c .step st k)
+  pub steps : (st : c .State) (k : ℕ) → StepLawful c Free st k (c .step st k)
 
 module _ (c : Convention) (laws : Laws c) where
   -- the records of an accepted list or signature, step by step
   pub data Walk : c .State → List ℕ → List Placed → c .State → Type 0 where
     end : {st : c .State} → Walk st [] [] st
-    one : {st st′ last : c .State} {k : ℕ} {p : c .Place} {ks : List ℕ} {L : List Placed}
-        → c .step st k ≡ next p st′ → c .fits st′ ≡ true → Walk st′ ks L last → Walk st (k ∷ ks) (c .placed k p ∷ L) last
+    one : {st st′ last : c .State} {k : ℕ} {p : c .Placement} {ks : List ℕ} {L : List Placed}
+        → c .step st k ≡ next p st′ → c .fits st′ ≡ true → Walk st′ ks L last → Walk st (k ∷ ks) (c .placedAt k p ∷ L) last
 
   abbrev Walked : c .State → List ℕ → Plan (c .State) → Type 0
   Walked st ks (bad r at) = Unit {0}
@@ -50,17 +50,17 @@ module _ (c : Convention) (laws : Laws c) where
   walked [] at st = end
   walked (k ∷ ks) at st = go (c .step st k) refl (λ st′. walked ks (suc at) st′)
     where
-      join : (p : c .Place) (st′ : c .State) → c .step st k ≡ next p st′ → c .fits st′ ≡ true → (q : Plan (c .State)) → Walked st′ ks q
-          → Walked st (k ∷ ks) (also (c .placed k p) q)
+      join : (p : c .Placement) (st′ : c .State) → c .step st k ≡ next p st′ → c .fits st′ ≡ true → (q : Plan (c .State)) → Walked st′ ks q
+          → Walked st (k ∷ ks) (also (c .placedAt k p) q)
       join p st′ e f (bad r at′) w = tt
       join p st′ e f (good L last) w = one e f w
 
-      fit : (p : c .Place) (st′ : c .State) → c .step st k ≡ next p st′ → (t : Bool) → c .fits st′ ≡ t → (r : ℕ → c .State → Plan (c .State)) → ((n : ℕ) (st″ : c .State) → Walked st″ ks (r n st″))
+      fit : (p : c .Placement) (st′ : c .State) → c .step st k ≡ next p st′ → (t : Bool) → c .fits st′ ≡ t → (r : ℕ → c .State → Plan (c .State)) → ((n : ℕ) (st″ : c .State) → Walked st″ ks (r n st″))
           → Walked st (k ∷ ks) (after c at k (cond t (next p st′) (refuse 5)) r)
       fit p st′ e false f r w = tt
-      fit p st′ e true f r w = join p st′ e f (r (c .placed k p .size) st′) (w (c .placed k p .size) st′)
+      fit p st′ e true f r w = join p st′ e f (r (c .placedAt k p .size) st′) (w (c .placedAt k p .size) st′)
 
-      go : (s : Step (c .Place) (c .State)) → c .step st k ≡ s → ((st′ : c .State) → Walked st′ ks (from c false (suc at) st′ 0 ks))
+      go : (s : Step (c .Placement) (c .State)) → c .step st k ≡ s → ((st′ : c .State) → Walked st′ ks (from c false (suc at) st′ 0 ks))
           → Walked st (k ∷ ks) (after c at k (limited c false (length ks) k s) (λ size st′. from c false (suc at) st′ (behind false size) ks))
       go (refuse r) e w = tt
       go (next p st′) e w = rw (le-ltb (length ks) 0 (omega arith))
@@ -69,37 +69,37 @@ module _ (c : Convention) (laws : Laws c) where
   pub walk-of : (ks : List ℕ) (st : c .State) (L : List Placed) (last : c .State) (at : ℕ) → from c false at st 0 ks ≡ good L last → Walk st ks L last
   walk-of ks st L last at e = subst (Walked st ks) e (walked ks at st)
 
-  owed : {st st′ : c .State} {k : ℕ} {p : c .Place} → c .step st k ≡ next p st′ → Owed c (laws .Free) st k (c .placed k p) st′
-  owed {st} {st′} {k} {p} e = subst (StepOwed c (laws .Free) st k) e (laws .steps st k)
+  laws-at : {st st′ : c .State} {k : ℕ} {p : c .Placement} → c .step st k ≡ next p st′ → StepLaws c (laws .Free) st k (c .placedAt k p) st′
+  laws-at {st} {st′} {k} {p} e = subst (StepLawful c (laws .Free) st k) e (laws .steps st k)
 
   pub walk-kinds : {st last : c .State} {ks : List ℕ} {L : List Placed} → Walk st ks L last → kinds L ≡ ks
   walk-kinds end = refl
-  walk-kinds (one e f w) = ap₂ (λ (k : ℕ) (r : List ℕ). k ∷ r) (owed e .kind) (walk-kinds w)
+  walk-kinds (one e f w) = ap₂ (λ (k : ℕ) (r : List ℕ). k ∷ r) (laws-at e .kind) (walk-kinds w)
 
   walk-sized : {st last : c .State} {ks : List ℕ} {L : List Placed} → Walk st ks L last → Sized L
   walk-sized end = tt
-  walk-sized (one e f w) = (owed e .sized, walk-sized w)
+  walk-sized (one e f w) = (laws-at e .sized, walk-sized w)
 
-  walk-grows : {st last : c .State} {ks : List ℕ} {L : List Placed} → Walk st ks L last → c .long st ≤ c .long last
+  walk-grows : {st last : c .State} {ks : List ℕ} {L : List Placed} → Walk st ks L last → c .imageLength st ≤ c .imageLength last
   walk-grows end = omega arith
-  walk-grows (one e f w) = omega (arith, owed e .grows, walk-grows w)
+  walk-grows (one e f w) = omega (arith, laws-at e .grows, walk-grows w)
 
   walk-free : {st last : c .State} {ks : List ℕ} {L : List Placed} → Walk st ks L last → (p : ℕ) → In p (carried L) → laws .Free st p
   walk-free end p m = absurd m
   walk-free (one {k = k} {p = q} {L = L} e f w) p m =
-      in-cases (c .placed k q .carriers) (carried L) p m (owed e .free p) (λ m′. owed e .keeps p (walk-free w p m′))
+      in-cases (c .placedAt k q .carriers) (carried L) p m (laws-at e .free p) (λ m′. laws-at e .keeps p (walk-free w p m′))
 
-  walk-inside : {st last : c .State} {ks : List ℕ} {L : List Placed} → Walk st ks L last → (p : ℕ) → In p (carried L) → p < c .long last
+  walk-inside : {st last : c .State} {ks : List ℕ} {L : List Placed} → Walk st ks L last → (p : ℕ) → In p (carried L) → p < c .imageLength last
   walk-inside end p m = absurd m
   walk-inside (one {k = k} {p = q} {L = L} e f w) p m =
-      in-cases (c .placed k q .carriers) (carried L) p m (λ m′. omega (arith, owed e .inside p m′, walk-grows w)) (λ m′. walk-inside w p m′)
+      in-cases (c .placedAt k q .carriers) (carried L) p m (λ m′. omega (arith, laws-at e .inside p m′, walk-grows w)) (λ m′. walk-inside w p m′)
 
   walk-distinct : {st last : c .State} {ks : List ℕ} {L : List Placed} → Walk st ks L last → Distinct (carried L)
   walk-distinct end = tt
   walk-distinct (one {k = k} {p = q} {L = L} e f w) =
-      distinct-append (c .placed k q .carriers) (carried L) (owed e .apart) (walk-distinct w) (λ p m m′. owed e .spent p m (walk-free w p m′))
+      distinct-append (c .placedAt k q .carriers) (carried L) (laws-at e .apart) (walk-distinct w) (λ p m m′. laws-at e .used p m (walk-free w p m′))
 
-  pub walk-one-each : {st last : c .State} {ks : List ℕ} {L : List Placed} → Walk st ks L last → OneEach (c .long last) L
+  pub walk-one-each : {st last : c .State} {ks : List ℕ} {L : List Placed} → Walk st ks L last → OneEach (c .imageLength last) L
   walk-one-each w = record { sized = walk-sized w; distinct = walk-distinct w; inside = λ p m. walk-inside w p m }
 
   -- the bytes of a body are passed over
@@ -114,12 +114,12 @@ module _ (c : Convention) (laws : Laws c) where
       → from c true at st 0 (reading L img) ≡ good L last
   plan-reading end img at = refl
   plan-reading (one {st = st} {st′ = st′} {last = last} {k = k} {p = p} {L = L} e f w) img at =
-      let s : Placed = c .placed k p in
+      let s : Placed = c .placedAt k p in
       let b : List ℕ = body (s .size) (bytesIn s img) in
-      let lb : length b ≡ s .size = length-body s img (fits-carriers s (owed e .sized)) in
+      let lb : length b ≡ s .size = length-body s img (fits-carriers s (laws-at e .sized)) in
       let uncut : ltb (length (b ++ reading L img)) (s .size) ≡ false =
       le-ltb (length (b ++ reading L img)) (s .size) (rw length-append (omega arith)) in
       subst
-      (λ (j : ℕ). after c at j (take c true (length (b ++ reading L img)) st j) (λ size st″. from c true (suc at) st″ (behind true size) (b ++ reading L img)) ≡ good (s ∷ L) last)
-      (sym (owed e .kind))
+      (λ (j : ℕ). after c at j (taken c true (length (b ++ reading L img)) st j) (λ size st″. from c true (suc at) st″ (behind true size) (b ++ reading L img)) ≡ good (s ∷ L) last)
+      (sym (laws-at e .kind))
       (rw (e, uncut, f, pass b (reading L img) (s .size) (suc at) st′ (good L last) lb (λ at′. plan-reading w img at′)) refl)

@@ -6,24 +6,24 @@ use lib.ListN.{length}
 use lib.Dec.{eqb, ltb}
 use Rattle.carried.specs.Image.{Placed, image, reading, Answer, done, refused, checked}
 
--- What a kind byte gets: a refusal, or a place and the state behind it.
-pub data Step (Place State : Type 0) : Type 0 where
-  refuse : ℕ → Step Place State
-  next : Place → State → Step Place State
+-- What a kind byte gets: a refusal, or a placement and the state behind it.
+pub data Step (Placement State : Type 0) : Type 0 where
+  refuse : ℕ → Step Placement State
+  next : Placement → State → Step Placement State
 
--- A calling convention: what it keeps of the arguments before (State), and what it gives to one (Place).
+-- A calling convention: what it keeps of the arguments before (State), and what it gives to one (Placement).
 pub record Convention : Type 1 where
   pub State : Type 0
-  pub Place : Type 0
+  pub Placement : Type 0
   pub start : State
-  -- refusals 1 to 3, or the place of this kind byte's argument
-  pub step : State → ℕ → Step Place State
-  -- this kind byte's record at that place
-  pub placed : ℕ → Place → Placed
+  -- refusals 1 to 3, or the placement of this kind byte
+  pub step : State → ℕ → Step Placement State
+  -- this kind byte's record, so placed
+  pub placedAt : ℕ → Placement → Placed
   -- whether the arguments so far end within the limit (refusal 5)
   pub fits : State → Bool
   -- the length of the image of the arguments so far
-  pub long : State → ℕ
+  pub imageLength : State → ℕ
 
 -- All records of a list or a signature: refused with number and place, or placed, and the last state.
 pub data Plan (State : Type 0) : Type 0 where
@@ -34,28 +34,31 @@ abbrev pub also : {State : Type 0} → Placed → Plan State → Plan State
 also s (bad r at) = bad r at
 also s (good L st) = good (s ∷ L) st
 
--- "One byte of kind, then a body" in a list; "the signature is the kind bytes alone".
+-- What stands behind a kind byte: in a list the body, in a signature nothing ("The signature is the kind bytes alone").
 abbrev pub behind : Bool → ℕ → ℕ
 behind bodies size = cond bodies size 0
 
 module _ (c : Convention) where
-  -- A record with so many bytes left behind its kind byte. "At each record the order is 1 to 5."
-  abbrev pub limited : Bool → ℕ → ℕ → Step (c .Place) (c .State) → Step (c .Place) (c .State)
+  -- A record with so many bytes left behind its kind byte. "At each record the order is 1 to 5": the convention has refused 1
+  -- to 3, or 4 is next (body cut off), then 5.
+  abbrev pub limited : Bool → ℕ → ℕ → Step (c .Placement) (c .State) → Step (c .Placement) (c .State)
   limited bodies left k (refuse r) = refuse r
   limited bodies left k (next p st) =
-      cond (ltb left (behind bodies (c .placed k p .size))) (refuse 4) (cond (c .fits st) (next p st) (refuse 5))
+      cond (ltb left (behind bodies (c .placedAt k p .size))) (refuse 4) (cond (c .fits st) (next p st) (refuse 5))
 
-  abbrev pub take : Bool → ℕ → c .State → ℕ → Step (c .Place) (c .State)
-  take bodies left st k = limited bodies left k (c .step st k)
+  -- One record, with all its refusals.
+  abbrev pub taken : Bool → ℕ → c .State → ℕ → Step (c .Placement) (c .State)
+  taken bodies left st k = limited bodies left k (c .step st k)
 
-  abbrev pub after : ℕ → ℕ → Step (c .Place) (c .State) → (ℕ → c .State → Plan (c .State)) → Plan (c .State)
+  -- The plan from a record on, by its answer: refused at its place, or its record and then the rest.
+  abbrev pub after : ℕ → ℕ → Step (c .Placement) (c .State) → (ℕ → c .State → Plan (c .State)) → Plan (c .State)
   after at k (refuse r) rest = bad r at
-  after at k (next p st) rest = also (c .placed k p) (rest (c .placed k p .size) st)
+  after at k (next p st) rest = also (c .placedAt k p) (rest (c .placedAt k p .size) st)
 
-  -- "Records are checked left to right": from the byte at this place on, with so many bytes of a body still to pass.
+  -- "records are checked left to right": from the byte at this place on, with so many bytes of a body still to pass.
   abbrev pub from : Bool → ℕ → c .State → ℕ → List ℕ → Plan (c .State)
   from bodies at st n [] = good [] st
-  from bodies at st zero (k ∷ l) = after at k (take bodies (length l) st k) (λ size st′. from bodies (suc at) st′ (behind bodies size) l)
+  from bodies at st zero (k ∷ l) = after at k (taken bodies (length l) st k) (λ size st′. from bodies (suc at) st′ (behind bodies size) l)
   from bodies at st (suc n) (b ∷ l) = from bodies (suc at) st n l
 
   -- The plan of a list (true) or of a signature (false).
@@ -65,15 +68,16 @@ module _ (c : Convention) where
   -- The writer: refusals 1 to 5, else the image. (Refusal 7 is of the lent buffer.)
   abbrev pub written : List ℕ → Plan (c .State) → Answer
   written l (bad r at) = refused r at
-  written l (good L st) = done (image (c .long st) L l)
+  written l (good L st) = done (image (c .imageLength st) L l)
 
   abbrev pub write : List ℕ → Answer
   write l = written l (plan true l)
 
-  -- The reader: refusals 1, 2, 3 and 5, then 6 (the image's length), then 8, else the reading.
+  -- The reader: refusals 1, 2, 3 and 5, then 6 (the image's length), then 8, else the reading. (Refusal 7, of the lent
+  -- buffer, stands between 6 and 8.)
   abbrev pub readUnder : List ℕ → Plan (c .State) → Answer
   readUnder img (bad r at) = refused r at
-  readUnder img (good L st) = cond (eqb (length img) (c .long st)) (checked 0 L img (done (reading L img))) (refused 6 0)
+  readUnder img (good L st) = cond (eqb (length img) (c .imageLength st)) (checked 0 L img (done (reading L img))) (refused 6 0)
 
   abbrev pub read : List ℕ → List ℕ → Answer
   read sig img = readUnder img (plan false sig)

@@ -1,11 +1,12 @@
 -- The carried-bytes theorem, as a statement about the writer and the reader of a convention.
 use mathlib.Core.Path.{_≡_}
+use mathlib.Core.Bool.{true}
 use mathlib.Core.Logic.{_⊎_, _↔_}
 use mathlib.Core.List.{List, [], _∷_}
 use Prim.Native.Nat.{ℕ, _<_}
 use lib.ListN.{length, getD}
-use Rattle.words.specs.Words.{promote}
-use Rattle.carried.specs.Image.{Placed, carried, done}
+use Rattle.words.specs.Words.{promote, proper}
+use Rattle.carried.specs.Image.{Placed, gather, carried, promotedBytes, reading, done}
 use Rattle.carried.specs.Convention.{Convention, write, read}
 
 -- p is one of these image bytes.
@@ -13,7 +14,7 @@ abbrev pub In : ℕ → List ℕ → Type 0
 In p [] = ⊥
 In p (q ∷ qs) = (p ≡ q) ⊎ In p qs
 
--- No image byte stands in it twice.
+-- No image byte is in the list twice.
 abbrev pub Distinct : List ℕ → Type 0
 Distinct [] = Unit {0}
 Distinct (p ∷ ps) = (In p ps → ⊥) × Distinct ps
@@ -27,27 +28,41 @@ abbrev pub kinds : List Placed → List ℕ
 kinds [] = []
 kinds (s ∷ L) = s .kind ∷ kinds L
 
--- "Each argument byte has exactly one carried byte, none shared"; all lie in the image's n bytes.
+-- Each argument byte has exactly one carried byte, none shared, and all lie in the image's n bytes.
 pub record OneEach (n : ℕ) (L : List Placed) : Type 0 where
   pub sized : Sized L
   pub distinct : Distinct (carried L)
   pub inside : (p : ℕ) → In p (carried L) → p < n
 
+-- No word of an image is an improper promotion (refusal 8).
+abbrev pub AllProper : List Placed → List ℕ → Type 0
+AllProper [] img = Unit {0}
+AllProper (s ∷ L) img = (proper (s .extension) (s .size) (gather img (s .carriers)) ≡ true) × AllProper L img
+
+-- "An image is accepted for it when none of the reader's refusals but 7 holds": neither 6 nor 8.
+pub record Accepted (n : ℕ) (L : List Placed) (img : List ℕ) : Type 0 where
+  pub whole : length img ≡ n
+  pub promoted : AllProper L img
+
 -- "The rewriting is the image that the writer gives for the reading": of an image a that reads as x.
 pub record Rewriting (c : Convention) (sig : List ℕ) (L : List Placed) (n : ℕ) (a x : List ℕ) : Type 0 where
   pub rewriting : List ℕ
   pub written : write c x ≡ done rewriting
-  pub long : length rewriting ≡ n
+  pub whole : length rewriting ≡ n
   pub keeps : (p : ℕ) → In p (carried L) → getD rewriting p 0 ≡ getD a p 0
   pub clears : (p : ℕ) → (In p (carried L) → ⊥) → getD rewriting p 0 ≡ 0
   pub reads : read c sig rewriting ≡ done x
-  pub settles : (y r : List ℕ) → read c sig rewriting ≡ done y → write c y ≡ done r → r ≡ rewriting
+  pub fixed : (y r : List ℕ) → read c sig rewriting ≡ done y → write c y ≡ done r → r ≡ rewriting
 
--- The theorem at one accepted signature: L are its records, placed; its images have n bytes. An image a is accepted, and
--- reads as x, where `read c sig a ≡ done x`.
+-- The theorem at one accepted signature: L are its records, placed; an image has n bytes.
 pub record Carried (c : Convention) (sig : List ℕ) (L : List Placed) (n : ℕ) : Type 0 where
   pub signature : kinds L ≡ sig
-  pub placed : OneEach n L
+  pub one-each : OneEach n L
+  -- every accepted image is read, and no other
+  pub accepts : (a : List ℕ) → Accepted n L a → read c sig a ≡ done (reading L a)
+  pub accepted : (a x : List ℕ) → read c sig a ≡ done x → Accepted n L a
+  -- the bytes of the reading's arguments after promotion are those that the image carries
+  pub carries : (a x : List ℕ) → read c sig a ≡ done x → promotedBytes L x ≡ gather a (carried L)
   -- two images read as the same list exactly when they agree on all carried bytes
   pub read-same : (a b x y : List ℕ) → read c sig a ≡ done x → read c sig b ≡ done y
       → (x ≡ y) ↔ ((p : ℕ) → In p (carried L) → getD a p 0 ≡ getD b p 0)

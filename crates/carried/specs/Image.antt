@@ -35,12 +35,12 @@ promotedBytes [] l = []
 promotedBytes (s ∷ L) [] = []
 promotedBytes (s ∷ L) (k ∷ l) = promote (s .extension) (take (s .size) l) ++ promotedBytes L (drop (s .size) l)
 
--- The image of a list, n bytes long. "The writer puts zero in every byte that carries nothing."
+-- The image of a list, n bytes long. "The writer puts zero in every byte that carries nothing".
 abbrev pub image : ℕ → List Placed → List ℕ → List ℕ
 image n L l = put (replicate n 0) (carried L) (promotedBytes L l)
 
--- "The reading is .. the signature's kind bytes in order, each followed by the body whose bytes, after promotion, are those
--- that the image carries for it."
+-- The reading: "the signature's kind bytes in order, each followed by the body whose bytes, after promotion, are those that
+-- the image carries for it".
 abbrev pub reading : List Placed → List ℕ → List ℕ
 reading [] img = []
 reading (s ∷ L) img = s .kind ∷ (body (s .size) (gather img (s .carriers)) ++ reading L img)

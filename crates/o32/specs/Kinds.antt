@@ -37,15 +37,15 @@ look k (row first last size a c ∷ rows) = cond (leb first k && leb k last) (re
 abbrev pub kindOf : ℕ → Kind
 kindOf k = look k table
 
--- Whether a kind is of a class.
-abbrev pub number : Class → ℕ
-number Unknown = 0
-number Marker = 1
-number Pointer = 2
-number Signed = 3
-number Unsigned = 4
-number Float = 5
-number Plain = 6
+-- A number for each class, and whether a kind is of a class.
+abbrev pub classNumber : Class → ℕ
+classNumber Unknown = 0
+classNumber Marker = 1
+classNumber Pointer = 2
+classNumber Signed = 3
+classNumber Unsigned = 4
+classNumber Float = 5
+classNumber Plain = 6
 
 abbrev pub is : Class → Kind → Bool
-is c k = eqb (number (k .class)) (number c)
+is c k = eqb (classNumber (k .class)) (classNumber c)

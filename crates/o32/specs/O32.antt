@@ -11,15 +11,16 @@ use Rattle.o32.specs.declared.Placement.{Placement}
 use Rattle.o32.specs.Kinds.{kindOf, is}
 use Rattle.o32.specs.Offsets.{extension, width, up, offset, ending}
 
--- Rule 3. The floating register of an argument, or 0. "If the first argument is s or d, it goes to $f12. If it is and the
--- second is s or d before any marker, that one goes to $f14. No other argument uses these registers. A return pointer counts
--- as first."
+-- Rule 3. The floating register of an argument, or 0. "If the first argument is s or d, it goes to `$f12`. If it is and the
+-- second is s or d before any marker, that one goes to `$f14`. .. No other argument uses these registers. A return pointer
+-- counts as first."
 abbrev pub register : State → Kind → ℕ
 register st k =
     cond (is Float k && eqb (st .count) 0) 12
     (cond (is Float k && eqb (st .count) 1 && st .floating && not (st .marked)) 14 0)
 
--- n image bytes from p on, and those of a floating register: "eight register words, $4 to $7 then $f12 to $f15".
+-- n image bytes from p on, and those of the floating register f: "It starts with eight register words, `$4` to `$7` then
+-- `$f12` to `$f15`".
 abbrev pub run : ℕ → ℕ → List ℕ
 run p zero = []
 run p (suc n) = p ∷ run (suc p) n
@@ -27,23 +28,25 @@ run p (suc n) = p ∷ run (suc p) n
 abbrev pub registerWord : ℕ → List ℕ
 registerWord f = run (16 + 4 * (f - 12)) 4
 
--- Rule 3. "A double takes the pair: its first four bytes in the even register, the next four in the odd one."
-abbrev pub pair : ℕ → ℕ → List ℕ
-pair f size = cond (eqb size 8) (registerWord f ++ registerWord (f + 1)) (registerWord f)
+-- Rule 3. A single is in the register; "A double takes the pair ..: its first four bytes in the even register, the next four
+-- in the odd one."
+abbrev pub floatBytes : ℕ → ℕ → List ℕ
+floatBytes f size = cond (eqb size 8) (registerWord f ++ registerWord (f + 1)) (registerWord f)
 
--- Rule 4. "Byte i of an argument at offset o is carried by image byte o + i where o + i is below 16, else by image byte
--- 32 + o + i."
+-- Rule 4, in an image: byte o of the arguments' structure is in register word o / 4, or at offset o of the area behind the 32
+-- bytes of the register words. "Byte i (from 0) of an argument at offset o is carried by image byte o + i where o + i is below
+-- 16, else by image byte 32 + o + i."
 abbrev pub carrier : ℕ → ℕ
 carrier o = cond (ltb o 16) o (32 + o)
 
 abbrev pub carriers : Placement → List ℕ
-carriers p = cond (eqb (p .register) 0) (map carrier (run (p .offset) (width (p .kind)))) (pair (p .register) (p .kind .size))
+carriers p = cond (eqb (p .register) 0) (map carrier (run (p .offset) (width (p .kind)))) (floatBytes (p .register) (p .kind .size))
 
 -- Rule 5. "The area size A is the end of the last argument rounded up to 8, and at least 16."
 abbrev pub area : ℕ → ℕ
 area end = max 16 (up 8 end)
 
--- Refusal 2. "The marker stands at most once, and after at least one argument that is no return pointer. A return pointer
+-- Refusal 2. "The marker stands at most once, and after at least one argument that is no return pointer. .. A return pointer
 -- stands first or nowhere."
 abbrev pub misplaced : State → Kind → Bool
 misplaced st k = (is Marker k && (st .marked || leb (st .count) (cond (st .pointer) 1 0))) || (is Pointer k && not (eqb (st .count) 0))
@@ -72,14 +75,14 @@ stepped st k =
     (cond (full st k) (refuse 3)
     (next (record { kind = k; offset = offset k (st .end); register = register st k }) (onward st k))))
 
--- The convention. "The end may be at most 1,024" (rule 5, refusal 5). "Its length is 32 + A."
+-- The convention. "The end may be at most 1,024" (rule 5, refusal 5). "Its length is 32 + A".
 abbrev pub O32 : Convention
 O32 = record {
   State = State;
-  Place = Placement;
+  Placement = Placement;
   start = record { end = 0; count = 0; pointer = false; floating = false; marked = false };
   step = λ st k. stepped st (kindOf k);
-  placed = λ k p. record { kind = k; size = p .kind .size; extension = extension (p .kind); carriers = carriers p };
+  placedAt = λ k p. record { kind = k; size = p .kind .size; extension = extension (p .kind); carriers = carriers p };
   fits = λ st. leb (st .end) 1024;
-  long = λ st. 32 + area (st .end);
+  imageLength = λ st. 32 + area (st .end);
 }

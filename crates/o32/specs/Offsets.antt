@@ -6,7 +6,7 @@ use Rattle.o32.specs.declared.Class.the-variants.{Signed, Unsigned}
 use Rattle.o32.specs.declared.Kind.{Kind}
 use Rattle.o32.specs.Kinds.{is}
 
--- Rule 1. "Bytes and halfwords become words." Nothing is put in front of any other body.
+-- Rule 1. "Bytes and halfwords become words"; nothing is put in front of any other body.
 abbrev pub extension : Kind → Extension
 extension k = cond (is Signed k) (toWord true (k .size)) (cond (is Unsigned k) (toWord false (k .size)) (zeros 0))
 
@@ -14,15 +14,15 @@ extension k = cond (is Signed k) (toWord true (k .size)) (cond (is Unsigned k) (
 abbrev pub width : Kind → ℕ
 width k = cond (is Signed k || is Unsigned k) 4 (k .size)
 
--- The next multiple of a, from n on.
+-- The next multiple of a, from n on. (0 where a is 0: a marker has no offset.)
 abbrev pub up : ℕ → ℕ → ℕ
 up a n = (n + (a - 1)) / a * a
 
--- Rule 2. "Arguments lie as members of one structure from offset 0: each at the next multiple of its alignment", from the end
--- of the arguments before.
+-- Rule 2. "Arguments lie as members of one structure from offset 0: each at the next multiple of its alignment." The end is
+-- that of the arguments before.
 abbrev pub offset : Kind → ℕ → ℕ
 offset k end = up (k .alignment) end
 
--- Where it ends. "Structures are rounded up to whole words; their bytes come first, fill after" (rule 1).
+-- Where it ends. Rule 1: "Structures are rounded up to whole words; their bytes come first, fill after".
 abbrev pub ending : Kind → ℕ → ℕ
 ending k end = offset k end + up 4 (width k)

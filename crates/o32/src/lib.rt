@@ -1,6 +1,6 @@
 // The O32 convention: the data that its definitions in specs/ speak of. The theorems are in proofs/; there is no code here.
 
-// How an argument of a kind is passed.
+// The classes of kinds, by how they are treated.
 pub enum Class {
     Unknown,
     Marker,

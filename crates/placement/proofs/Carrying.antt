@@ -17,12 +17,12 @@ use Rattle.o32.specs.declared.Class.the-variants.{Unknown, Marker, Float}
 use Rattle.o32.specs.declared.Kind.{Kind}
 use Rattle.o32.specs.declared.State.{State}
 use Rattle.o32.specs.declared.Placement.{Placement}
-use Rattle.o32.specs.Kinds.{kindOf, is, number}
+use Rattle.o32.specs.Kinds.{kindOf, is, classNumber}
 use Rattle.o32.specs.Offsets.{width, offset, ending}
-use Rattle.o32.specs.O32.{register, run, registerWord, pair, carrier, carriers, misplaced, full, onward, stepped, O32}
+use Rattle.o32.specs.O32.{register, run, registerWord, floatBytes, carrier, carriers, misplaced, full, onward, stepped, O32}
 use Rattle.placement.specs.Carrying.{endOf, registerBehind, CarriedAt}
 use Rattle.placement.proofs.KindFacts.{kind-sound}
-use Rattle.placement.proofs.Laws.{O32-laws, length-span, length-pair}
+use Rattle.placement.proofs.Laws.{O32-laws, length-span, length-float}
 
 -- ---- what a step that places a record says
 
@@ -92,7 +92,7 @@ record First (st : State) (k : ℕ) (ks : List ℕ) (L : List Placed) (last : St
   behind : State
   rest : List Placed
   stepped-so : Stepped st (kindOf k) place behind
-  records : L ≡ O32 .placed k place ∷ rest
+  records : L ≡ O32 .placedAt k place ∷ rest
   walk : Walk O32 O32-laws behind ks rest last
 
 first : {st : State} {k : ℕ} {ks : List ℕ} {L : List Placed} {last : State} → Walk O32 O32-laws st (k ∷ ks) L last → First st k ks L last
@@ -114,7 +114,7 @@ placed-so : (before : List ℕ) (st : State) (k : ℕ) (behind : List ℕ) (L : 
     → (M : List Placed) (s : Placed) (N : List Placed) → L ≡ M ++ (s ∷ N) → length M ≡ length before → s .carriers ≡ carriers (placement (reach st before) (kindOf k))
 placed-so [] st k behind L last w [] s N e h =
     let a : First st k behind L last = first w in
-    let i : s ≡ O32 .placed k (a .place) = cc (a .records) in
+    let i : s ≡ O32 .placedAt k (a .place) = cc (a .records) in
     ap (λ (x : Placed). x .carriers) i ∙ ap carriers (a .stepped-so .at)
 placed-so [] st k behind L last w (m ∷ M) s N e h = absurd (omega arith)
 placed-so (j ∷ before) st k behind L last w [] s N e h = absurd (omega arith)
@@ -175,14 +175,14 @@ carrier-low o h = rw (lt-ltb o 16 h)
 carrier-high : (o : ℕ) → 16 ≤ o → carrier o ≡ 32 + o
 carrier-high o h = rw (le-ltb o 16 h)
 
-getD-even : (f size i : ℕ) → i < 4 → getD (pair f size) i 0 ≡ 16 + 4 * (f - 12) + i
+getD-even : (f size i : ℕ) → i < 4 → getD (floatBytes f size) i 0 ≡ 16 + 4 * (f - 12) + i
 getD-even f size i h = go (eqb size 8)
   where
     go : (t : Bool) → getD (cond t (registerWord f ++ registerWord (f + 1)) (registerWord f)) i 0 ≡ 16 + 4 * (f - 12) + i
     go true = List·getD-append (registerWord f) (registerWord (f + 1)) 0 i h ∙ getD-run 4 (16 + 4 * (f - 12)) i h
     go false = getD-run 4 (16 + 4 * (f - 12)) i h
 
-getD-odd : (f size i : ℕ) → i < 4 → 4 + i < length (pair f size) → getD (pair f size) (4 + i) 0 ≡ 16 + 4 * (f + 1 - 12) + i
+getD-odd : (f size i : ℕ) → i < 4 → 4 + i < length (floatBytes f size) → getD (floatBytes f size) (4 + i) 0 ≡ 16 + 4 * (f + 1 - 12) + i
 getD-odd f size i h l = go (eqb size 8) l
   where
     go : (t : Bool) → 4 + i < length (cond t (registerWord f ++ registerWord (f + 1)) (registerWord f))
@@ -206,7 +206,7 @@ floats-only (j ∷ []) k h = go (is Float (kindOf j)) (is Float (kindOf k)) h
 floats-only (j ∷ i ∷ js) k h = absurd (omega arith)
 
 float-width : (k : Kind) → is Float k ≡ true → width k ≡ k .size
-float-width k e = rw (eqb-true (number (k .class)) 5 e)
+float-width k e = rw (eqb-true (classNumber (k .class)) 5 e)
 
 -- ---- the law
 
@@ -215,14 +215,14 @@ module _ (before : List ℕ) (k : ℕ) (cs : List ℕ)
   by-offset : registerBehind before k ≡ 0 → cs ≡ map carrier (run (offset (kindOf k) (endOf 0 before)) (width (kindOf k)))
   by-offset z = so ∙ rw z
 
-  by-register : 1 ≤ registerBehind before k → cs ≡ pair (registerBehind before k) (kindOf k .size)
+  by-register : 1 ≤ registerBehind before k → cs ≡ floatBytes (registerBehind before k) (kindOf k .size)
   by-register h = so ∙ rw (ne-eqb (registerBehind before k) 0 (λ e. omega arith))
 
   carried-long : (r : ℕ) → registerBehind before k ≡ r → length cs ≡ width (kindOf k)
   carried-long zero e = ap length (by-offset e) ∙ length-span (width (kindOf k)) (offset (kindOf k) (endOf 0 before))
   carried-long (suc r) e =
       let f : is Float (kindOf k) ≡ true = floats-only before k (omega arith) in
-      ap length (by-register (omega arith)) ∙ length-pair (registerBehind before k) (kindOf k .size) (kind-sound k .floats f) ∙ sym (float-width (kindOf k) f)
+      ap length (by-register (omega arith)) ∙ length-float (registerBehind before k) (kindOf k .size) (kind-sound k .floats f) ∙ sym (float-width (kindOf k) f)
 
   at-byte : registerBehind before k ≡ 0 → (o i : ℕ) → o ≡ offset (kindOf k) (endOf 0 before) → i < length cs → getD cs i 0 ≡ carrier (o + i)
   at-byte z o i e h =
@@ -235,7 +235,7 @@ module _ (before : List ℕ) (k : ℕ) (cs : List ℕ)
     high = λ z o i e h l. at-byte z o i e h ∙ carrier-high (o + i) l;
     even = λ f e h i l. rw (← e) (ap (λ (x : List ℕ). getD x i 0) (by-register (omega arith)) ∙ getD-even (registerBehind before k) (kindOf k .size) i l);
     odd = λ f e h i l m.
-        let q : cs ≡ pair (registerBehind before k) (kindOf k .size) = by-register (omega arith) in
+        let q : cs ≡ floatBytes (registerBehind before k) (kindOf k .size) = by-register (omega arith) in
         rw (← e) (ap (λ (x : List ℕ). getD x (4 + i) 0) q ∙ getD-odd (registerBehind before k) (kindOf k .size) i l (rw q at m));
   }
 

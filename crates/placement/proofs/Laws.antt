@@ -1,4 +1,4 @@
--- What O32 owes at each step: the image bytes of a record are new and inside the image. So the carried-bytes theorem holds of it.
+-- What each step of O32 gives: the image bytes of a record are new and inside the image. So the carried-bytes theorem holds of it.
 -- Assumes nothing.
 use mathlib.Core.Path.{_≡_, refl, sym, ap, _∙_}
 use mathlib.Core.Logic.{_⊎_, inl, inr}
@@ -15,7 +15,7 @@ use Rattle.carried.specs.Image.{Placed}
 use Rattle.carried.specs.Convention.{Step, refuse, next, good, plan}
 use Rattle.carried.specs.Demand.{In, Distinct, Carried}
 use Rattle.carried.proofs.Places.{in-cases, distinct-append}
-use Rattle.carried.proofs.Walks.{Owed, StepOwed, Laws}
+use Rattle.carried.proofs.Walks.{StepLaws, StepLawful, Laws}
 use Rattle.carried.proofs.Theorem.{theorem}
 use Rattle.o32.specs.declared.Class.{Class}
 use Rattle.o32.specs.declared.Class.the-variants.{Unknown, Marker, Pointer, Signed, Unsigned, Float, Plain}
@@ -24,7 +24,7 @@ use Rattle.o32.specs.declared.State.{State}
 use Rattle.o32.specs.declared.Placement.{Placement}
 use Rattle.o32.specs.Kinds.{kindOf}
 use Rattle.o32.specs.Offsets.{extension, up, offset, ending}
-use Rattle.o32.specs.O32.{register, run, registerWord, pair, carrier, carriers, area, misplaced, full, onward, stepped, O32}
+use Rattle.o32.specs.O32.{register, run, registerWord, floatBytes, carrier, carriers, area, misplaced, full, onward, stepped, O32}
 use Rattle.placement.proofs.KindFacts.{Sound, kind-sound}
 
 -- ---- the next multiple
@@ -110,8 +110,8 @@ length-span n o = length-map (run o n) carrier ∙ length-run n o
 
 -- ---- bytes of a floating register pair
 
-pair-at : (f size p : ℕ) → 12 ≤ f → In p (pair f size) → (16 + 4 * (f - 12) ≤ p) × (p < 24 + 4 * (f - 12))
-pair-at f size p h m = go (eqb size 8) m
+float-at : (f size p : ℕ) → 12 ≤ f → In p (floatBytes f size) → (16 + 4 * (f - 12) ≤ p) × (p < 24 + 4 * (f - 12))
+float-at f size p h m = go (eqb size 8) m
   where
     go : (t : Bool) → In p (cond t (registerWord f ++ registerWord (f + 1)) (registerWord f)) → (16 + 4 * (f - 12) ≤ p) × (p < 24 + 4 * (f - 12))
     go true m = in-cases (registerWord f) (registerWord (f + 1)) p m
@@ -119,17 +119,17 @@ pair-at f size p h m = go (eqb size 8) m
         (λ i. omega (arith, run-at 4 (16 + 4 * (f + 1 - 12)) p i))
     go false m = omega (arith, run-at 4 (16 + 4 * (f - 12)) p m)
 
-pair-distinct : (f size : ℕ) → 12 ≤ f → Distinct (pair f size)
-pair-distinct f size h = go (eqb size 8)
+float-distinct : (f size : ℕ) → 12 ≤ f → Distinct (floatBytes f size)
+float-distinct f size h = go (eqb size 8)
   where
     go : (t : Bool) → Distinct (cond t (registerWord f ++ registerWord (f + 1)) (registerWord f))
     go true = distinct-append (registerWord f) (registerWord (f + 1)) (run-distinct 4 (16 + 4 * (f - 12))) (run-distinct 4 (16 + 4 * (f + 1 - 12)))
         (λ p i j. omega (arith, run-at 4 (16 + 4 * (f - 12)) p i, run-at 4 (16 + 4 * (f + 1 - 12)) p j))
     go false = run-distinct 4 (16 + 4 * (f - 12))
 
-pub length-pair : (f size : ℕ) → (size ≡ 4) ⊎ (size ≡ 8) → length (pair f size) ≡ size
-length-pair f size (inl e) = rw e refl
-length-pair f size (inr e) = rw e refl
+pub length-float : (f size : ℕ) → (size ≡ 4) ⊎ (size ≡ 8) → length (floatBytes f size) ≡ size
+length-float f size (inl e) = rw e refl
+length-float f size (inr e) = rw e refl
 
 -- ---- the bytes that are free: those of later offsets, and the floating registers of this argument and the next
 
@@ -147,9 +147,9 @@ laid-used : (o d e n p : ℕ) → d ≤ e → Between o d p → Unused e n p →
 laid-used o d e n p h t (inl x) = t .before (behind-mono d e p h x)
 laid-used o d e n p h t (inr x) = not-floating o p (t .from) (omega arith) (omega arith)
 
-pair-used : (e n p : ℕ) → n < 2 → (16 + 8 * n ≤ p) × (p < 24 + 8 * n) → Unused e (n + 1) p → ⊥
-pair-used e n p h t (inl x) = not-floating e p x (omega arith) (omega arith)
-pair-used e n p h t (inr x) = omega arith
+float-used : (e n p : ℕ) → n < 2 → (16 + 8 * n ≤ p) × (p < 24 + 8 * n) → Unused e (n + 1) p → ⊥
+float-used e n p h t (inl x) = not-floating e p x (omega arith) (omega arith)
+float-used e n p h t (inr x) = omega arith
 
 long-mono : (a b : ℕ) → a ≤ b → 32 + area a ≤ 32 + area b
 long-mono a b h = omega arith
@@ -159,13 +159,13 @@ long-mono a b h = omega arith
 -- an argument by its offset: m bytes from o on
 module _ (st : State) (k n : ℕ) (e : Extension) (o m : ℕ) (st′ : State) where
   laid : st .end ≤ o → o + m ≤ st′ .end → st .count ≤ st′ .count → ((b : List ℕ) → length b ≡ n → length (promote e b) ≡ m)
-      → Owed O32 Free st k (record { kind = k; size = n; extension = e; carriers = span o m }) st′
+      → StepLaws O32 Free st k (record { kind = k; size = n; extension = e; carriers = span o m }) st′
   laid h g l z = record {
     kind = refl;
     sized = λ b x. z b x ∙ sym (length-span m o);
     apart = span-distinct m o;
     free = λ p i. inl (behind-mono (st .end) o p h (span-at m o p i .from));
-    spent = λ p i. laid-used o (o + m) (st′ .end) (st′ .count) p g (span-at m o p i);
+    used = λ p i. laid-used o (o + m) (st′ .end) (st′ .count) p g (span-at m o p i);
     keeps = λ p. unused-mono (st .end) (st′ .end) (st .count) (st′ .count) p (omega arith) l;
     inside = λ p i. omega (arith, span-at m o p i .inside, up-ge 8 (st′ .end) (omega arith));
     grows = long-mono (st .end) (st′ .end) (omega arith);
@@ -174,15 +174,15 @@ module _ (st : State) (k n : ℕ) (e : Extension) (o m : ℕ) (st′ : State) wh
 -- a float in the register pair f
 module _ (st : State) (k n f : ℕ) (st′ : State) where
   floated : 12 ≤ f → 4 * (f - 12) ≡ 8 * st .count → st .count < 2 → (n ≡ 4) ⊎ (n ≡ 8) → st .end ≤ st′ .end → st′ .count ≡ st .count + 1
-      → Owed O32 Free st k (record { kind = k; size = n; extension = zeros 0; carriers = pair f n }) st′
+      → StepLaws O32 Free st k (record { kind = k; size = n; extension = zeros 0; carriers = floatBytes f n }) st′
   floated h q c z g l = record {
     kind = refl;
-    sized = λ b x. x ∙ sym (length-pair f n z);
-    apart = pair-distinct f n h;
-    free = λ p i. inr (omega (arith, pair-at f n p h i));
-    spent = λ p i. rw l (pair-used (st′ .end) (st .count) p c (omega (arith, pair-at f n p h i)));
+    sized = λ b x. x ∙ sym (length-float f n z);
+    apart = float-distinct f n h;
+    free = λ p i. inr (omega (arith, float-at f n p h i));
+    used = λ p i. rw l (float-used (st′ .end) (st .count) p c (omega (arith, float-at f n p h i)));
     keeps = λ p. unused-mono (st .end) (st′ .end) (st .count) (st′ .count) p g (omega arith);
-    inside = λ p i. omega (arith, pair-at f n p h i);
+    inside = λ p i. omega (arith, float-at f n p h i);
     grows = long-mono (st .end) (st′ .end) g;
   }
 
@@ -199,7 +199,7 @@ and-left true b t = refl
 and-left false b t = t
 
 abbrev Gives : State → ℕ → Step Placement State → Type 0
-Gives st k s = StepOwed O32 Free st k s
+Gives st k s = StepLawful O32 Free st k s
 
 unless : (st : State) (k : ℕ) (t : Bool) (r : ℕ) (s : Step Placement State) → Gives st k s → Gives st k (cond t (refuse r) s)
 unless st k true r s h = tt
@@ -210,7 +210,7 @@ module _ (st : State) (k n a : ℕ) where
   of c = record { size = n; alignment = a; class = c }
 
   by-offset : (e : Extension) (m : ℕ) (st′ : State) → st′ .end ≡ up a (st .end) + up 4 m → st′ .count ≡ st .count + 1 → 1 ≤ a
-      → ((b : List ℕ) → length b ≡ n → length (promote e b) ≡ m) → Owed O32 Free st k (record { kind = k; size = n; extension = e; carriers = span (up a (st .end)) m }) st′
+      → ((b : List ℕ) → length b ≡ n → length (promote e b) ≡ m) → StepLaws O32 Free st k (record { kind = k; size = n; extension = e; carriers = span (up a (st .end)) m }) st′
   by-offset e m st′ x y h = laid st k n e (up a (st .end)) m st′ (up-ge a (st .end) h) (omega (arith, ends (up a (st .end)) m)) (omega arith)
 
   grown : Sound (of Float) → st .end ≤ ending (of Float) (st .end)

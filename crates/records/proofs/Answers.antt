@@ -8,26 +8,26 @@ use native.Mathlib.Omega.{arith}
 use native.Mathlib.Nat.{mul-zero}
 use lib.Dec.{eqb, leb, eqb·suc-zero, leb·suc-zero}
 use borrow.Author.Tests.{eqb-true, ne-eqb, le-leb, lt-leb, leb-false, lt-ltb, le-ltb}
-use Rattle.carried.specs.Convention.{refuse, next, behind, limited, take}
+use Rattle.carried.specs.Convention.{refuse, next, behind, limited, taken}
 use Rattle.o32.specs.declared.Class.{Class}
 use Rattle.o32.specs.declared.Class.the-variants.{Unknown, Marker, Pointer, Signed, Unsigned, Float}
 use Rattle.o32.specs.declared.Kind.{Kind}
 use Rattle.o32.specs.declared.State.{State}
 use Rattle.records.specs.declared.Record.{Record}
 use Rattle.records.specs.declared.Record.the-variants as R
-use Rattle.o32.specs.Kinds.{kindOf, is, number}
+use Rattle.o32.specs.Kinds.{kindOf, is, classNumber}
 use Rattle.o32.specs.Offsets.{width, up, offset, ending}
 use Rattle.o32.specs.O32.{O32, register, misplaced, full, onward, stepped}
 use Rattle.records.specs.Records.{Alignment, recordOf}
 use Rattle.placement.proofs.KindFacts.{kind-sound}
 use Rattle.placement.proofs.Laws.{up-ge, up-le}
 
-pub same-class : (a b : Class) (x y : ℕ) → x ≡ number a → y ≡ number b → eqb x y ≡ eqb (number a) (number b)
+pub same-class : (a b : Class) (x y : ℕ) → x ≡ classNumber a → y ≡ classNumber b → eqb x y ≡ eqb (classNumber a) (classNumber b)
 same-class a b x y e f = ap₂ eqb e f
 
 -- a kind has one class
-class-is : (c : Class) (k : Kind) (t : Bool) → t ≡ is c k → t ≡ true → number (k .class) ≡ number c
-class-is c k t e h = eqb-true (number (k .class)) (number c) (sym e ∙ h)
+class-is : (c : Class) (k : Kind) (t : Bool) → t ≡ is c k → t ≡ true → classNumber (k .class) ≡ classNumber c
+class-is c k t e h = eqb-true (classNumber (k .class)) (classNumber c) (sym e ∙ h)
 
 -- ---- alignment
 
@@ -139,7 +139,7 @@ onward-grows st k e = go (is Marker (kindOf k)) refl
 
 module _ (st : State) (k : ℕ) (bodies : Bool) (left : ℕ) (kd : Kind) (e : kd ≡ kindOf k) where
   abbrev Given : Record → Type 0
-  Given r = r ≡ recordOf (take O32 bodies left st k)
+  Given r = r ≡ recordOf (taken O32 bodies left st k)
 
   answer : (r : Record) → r ≡ recordOf (limited O32 bodies left k (stepped st kd)) → Given r
   answer r h = h ∙ ap (λ (x : Kind). recordOf (limited O32 bodies left k (stepped st x))) e
@@ -173,9 +173,9 @@ module _ (st : State) (k : ℕ) (bodies : Bool) (left : ℕ) (kd : Kind) (e : kd
             pub refused-5-behind : (n : State) → n ≡ onward st kd → 1024 < n .end → Given (R.Refused 5)
             refused-5-behind n g h = refused-5 (rw g at h)
 
-            pub taken : (n : State) (o g : ℕ) → n ≡ onward st kd → n .end ≤ 1024 → o ≡ up (kd .alignment) (st .end) → g ≡ register st kd
+            pub accepted : (n : State) (o g : ℕ) → n ≡ onward st kd → n .end ≤ 1024 → o ≡ up (kd .alignment) (st .end) → g ≡ register st kd
                 → Given (R.Taken (record { kind = kd; offset = o; register = g }) n)
-            taken n o g x h y z = limit _ (rw (x, y, z) (rw (le-leb (onward st kd .end) 1024 (rw x at h))))
+            accepted n o g x h y z = limit _ (rw (x, y, z) (rw (le-leb (onward st kd .end) 1024 (rw x at h))))
 
 -- what the functions under it require
 pub kind-aligned : (k : ℕ) (kd : Kind) → kd ≡ kindOf k → Alignment (kd .alignment)

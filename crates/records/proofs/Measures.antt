@@ -7,7 +7,7 @@ use Prim.Native.Nat.{ℕ, _+_, _-_, _^_, _≤_, _<_}
 use native.Mathlib.Omega.{arith}
 use lib.ListN.{length, getD}
 use Rattle.carried.specs.Image.{Placed}
-use Rattle.carried.specs.Convention.{Step, refuse, next, Plan, bad, good, also, behind, take, plan}
+use Rattle.carried.specs.Convention.{Step, refuse, next, Plan, bad, good, also, behind, taken, plan}
 use Rattle.carried.proofs.Records.{onFrom, finished, stopped, within, passed}
 use Rattle.o32.specs.declared.State.{State}
 use Rattle.o32.specs.declared.Placement.{Placement}
@@ -43,16 +43,16 @@ pub walk-ends : (bodies : Bool) (list : List ℕ) (st : State) (at : ℕ) → Wa
 walk-ends bodies list st at w h = sym (w .ahead ∙ ap measured (finished O32 bodies list at st (w .inside) h))
 
 module _ (bodies : Bool) (list : List ℕ) (st : State) (at : ℕ) (w : Walking bodies list st at) (h : at < length list)
-    (t : Record) (e : t ≡ recordOf (take O32 bodies (length list - (at + 1)) st (getD list at 0))) where
+    (t : Record) (e : t ≡ recordOf (taken O32 bodies (length list - (at + 1)) st (getD list at 0))) where
   pub walk-refused : (r : ℕ) (m : Measured) → t ≡ R.Refused r → m ≡ M.Refused r at → m ≡ measured (plan O32 bodies list)
   walk-refused r m g q = q ∙ sym (w .ahead ∙ ap measured (stopped O32 bodies list at st h r (step-refused _ r (sym e ∙ g))))
 
   module _ (p : Placement) (st′ : State) (g : t ≡ R.Taken p st′) (n : ℕ) (b : n ≡ behind bodies (p .kind .size)) where
-    taken : take O32 bodies (length list - (at + 1)) st (getD list at 0) ≡ next p st′
-    taken = step-taken _ p st′ (sym e ∙ g)
+    went : taken O32 bodies (length list - (at + 1)) st (getD list at 0) ≡ next p st′
+    went = step-taken _ p st′ (sym e ∙ g)
 
     pub walk-within : at + 1 + n ≤ length list
-    walk-within = rw b (within O32 bodies list at st h p st′ taken)
+    walk-within = rw b (within O32 bodies list at st h p st′ went)
 
     pub walk-fits : length list < 2 ^ 64 → at + 1 + n < 2 ^ 64
     walk-fits l = omega (arith, walk-within)
@@ -63,5 +63,5 @@ module _ (bodies : Bool) (list : List ℕ) (st : State) (at : ℕ) (w : Walking 
     pub walk-goes : Walking bodies list st′ (at + 1 + n)
     walk-goes = record {
       inside = walk-within;
-      ahead = rw b (w .ahead ∙ ap measured (passed O32 bodies list at st h p st′ taken) ∙ measured-also (O32 .placed (getD list at 0) p) (onFrom O32 bodies list (at + 1 + behind bodies (p .kind .size)) st′));
+      ahead = rw b (w .ahead ∙ ap measured (passed O32 bodies list at st h p st′ went) ∙ measured-also (O32 .placedAt (getD list at 0) p) (onFrom O32 bodies list (at + 1 + behind bodies (p .kind .size)) st′));
     }

@@ -3,9 +3,9 @@ ghost use mathlib.Core.Bool.{_||_, cond, false, true};
 ghost use mathlib.Core.Path.{_≡_};
 ghost use Prim.Native.Nat.{_≤_, ℕ};
 ghost use lib.Dec.{eqb};
-ghost use Rattle.carried.specs.Convention.{behind, plan, take};
+ghost use Rattle.carried.specs.Convention.{behind, plan, taken};
 ghost use Rattle.o32.specs.declared.Class.the-variants.{Float, Pointer};
-ghost use Rattle.o32.specs.Kinds.{is, kindOf, number};
+ghost use Rattle.o32.specs.Kinds.{is, kindOf, classNumber};
 ghost use Rattle.o32.specs.O32.{O32, full, misplaced, onward, register};
 ghost use Rattle.o32.specs.Offsets.{ending, up, width};
 ghost use Rattle.records.specs.Records.{Alignment, measured, recordOf};
@@ -61,7 +61,7 @@ pub fn kind_of(byte: u8) -> Kind
 }
 
 fn class_number(class: Class) -> u32
-    ensures { λ r. ⌜ r ≡ number class ⌝ }
+    ensures { λ r. ⌜ r ≡ classNumber class ⌝ }
 {
     match class {
         Class::Unknown => 0,
@@ -108,7 +108,7 @@ pub fn width_of(kind: Kind) -> usize
     kind.size
 }
 
-// Rule 2: where an argument ends, behind those that end here.
+// Rule 2: where an argument ends, laid behind arguments that end at `end`.
 fn ending_of(kind: Kind, end: usize) -> usize
     requires { ⌜ Alignment (kind .alignment) ⌝ }
     requires { ⌜ kind .size ≤ 512 ⌝ }
@@ -137,7 +137,7 @@ fn register_of(st: State, kind: Kind) -> usize
     if st.marked { 0 } else { 14 }
 }
 
-// Refusal 2: a marker behind no argument or a second one, a return pointer that is not first.
+// Refusal 2: a marker that is second or has only a return pointer or nothing before it, a return pointer that is not first.
 fn is_misplaced(st: State, kind: Kind) -> bool
     ensures { λ r. ⌜ r ≡ misplaced st kind ⌝ }
 {
@@ -166,7 +166,7 @@ fn is_full(st: State, kind: Kind) -> bool
     32 <= st.count
 }
 
-// Whether the first argument is a return pointer, with this argument behind the others.
+// Whether the first argument is a return pointer, once this argument is added.
 fn has_pointer(st: State, kind: Kind) -> bool
     ensures { λ r. ⌜ r ≡ st .pointer || is Pointer kind ⌝ }
 {
@@ -176,7 +176,7 @@ fn has_pointer(st: State, kind: Kind) -> bool
     is_class(Class::Pointer, kind)
 }
 
-// Whether the first argument is a float, with this argument behind the others.
+// Whether the first argument is a float, once this argument is added.
 fn starts_floating(st: State, kind: Kind) -> bool
     ensures { λ r. ⌜ r ≡ cond (eqb (st .count) 0) (is Float kind) (st .floating) ⌝ }
 {
@@ -235,7 +235,7 @@ pub fn body_behind(bodies: bool, size: usize) -> usize
 // One record of a list (bodies) or of a signature, with so many bytes left behind its kind byte: refusals 1 to 5 in their
 // order, or its placement and the state behind it.
 pub fn take(st: State, byte: u8, bodies: bool, left: usize) -> Record
-    ensures { λ r. ⌜ r ≡ recordOf (take O32 bodies left st byte) ⌝ }
+    ensures { λ r. ⌜ r ≡ recordOf (taken O32 bodies left st byte) ⌝ }
 {
     let kind = kind_of(byte);
     if is_class(Class::Unknown, kind) {

@@ -28,7 +28,7 @@ abbrev pub front : Extension → List ℕ → List ℕ
 front (zeros n) body = replicate n 0
 front (signs n) body = replicate n (sign body)
 
--- Rule 1. "A signed byte 0x80 becomes 0xFFFFFF80, an unsigned one 0x00000080."
+-- Rule 1. "a signed byte 0x80 becomes 0xFFFFFF80, an unsigned one 0x00000080."
 abbrev pub promote : Extension → List ℕ → List ℕ
 promote e body = front e body ++ body
 

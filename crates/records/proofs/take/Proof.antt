@@ -2,7 +2,7 @@
 -- Assumes nothing.
 use mathlib.Core.Path.{sym, _∙_}
 use native.Mathlib.Omega.{arith}
-use Rattle.records.proofs.Answers.{refused-1, refused-2, refused-3, refused-4, refused-5-before, refused-5-behind, taken, kind-aligned, kind-small}
+use Rattle.records.proofs.Answers.{refused-1, refused-2, refused-3, refused-4, refused-5-before, refused-5-behind, accepted, kind-aligned, kind-small}
 use borrow.Author.Needs.{needs}
 use Rattle.records.proofs.take.Statement.{statement}
 use Rattle.records.proofs.take.Tie as tie
@@ -50,7 +50,7 @@ register-of-requires : tie.Need-register-of-requires
 register-of-requires c κs = search needs
 
 returns-7 : tie.Need-returns-7
-returns-7 c = taken (c .before .before .before .before .before .before .before .before .before .before .before .before .before .before .before .before .args .st) (c .before .before .before .before .before .before .before .before .before .before .before .before .before .before .before .before .args .byte) (c .before .before .before .before .before .before .before .before .before .before .before .before .before .before .before .before .args .bodies) (c .before .before .before .before .before .before .before .before .before .before .before .before .before .before .before .before .args .left) (c .before .before .before .before .before .before .before .before .before .before .before .before .before .before .before .kind-of .result) (c .before .before .before .before .before .before .before .before .before .before .before .before .before .before .before .kind-of .ensures) (c .before .before .before .before .before .before .before .before .before .before .before .before .before .before .is-class .result) (c .before .before .before .before .before .before .before .before .before .before .before .before .before .before .is-class .ensures) (c .before .before .before .before .before .before .before .before .before .before .before .before .before .if1 .left) (c .before .before .before .before .before .before .before .before .before .before .before .before .is-misplaced .result) (c .before .before .before .before .before .before .before .before .before .before .before .before .is-misplaced .ensures) (c .before .before .before .before .before .before .before .before .before .before .before .if2 .left) (c .before .before .before .before .before .before .before .before .before .before .is-full .result) (c .before .before .before .before .before .before .before .before .before .before .is-full .ensures) (c .before .before .before .before .before .before .before .before .before .if3 .left) (c .before .before .before .before .before .before .before .before .body-behind .result) (c .before .before .before .before .before .before .before .before .body-behind .ensures) (c .before .before .before .before .before .before .before .if4 .left) (c .before .before .before .before .state-behind .result) (c .before .align-up .result) (c .register-of .result) (c .before .before .before .before .state-behind .ensures) (c .before .before .if6 .left) (c .before .align-up .ensures) (c .register-of .ensures)
+returns-7 c = accepted (c .before .before .before .before .before .before .before .before .before .before .before .before .before .before .before .before .args .st) (c .before .before .before .before .before .before .before .before .before .before .before .before .before .before .before .before .args .byte) (c .before .before .before .before .before .before .before .before .before .before .before .before .before .before .before .before .args .bodies) (c .before .before .before .before .before .before .before .before .before .before .before .before .before .before .before .before .args .left) (c .before .before .before .before .before .before .before .before .before .before .before .before .before .before .before .kind-of .result) (c .before .before .before .before .before .before .before .before .before .before .before .before .before .before .before .kind-of .ensures) (c .before .before .before .before .before .before .before .before .before .before .before .before .before .before .is-class .result) (c .before .before .before .before .before .before .before .before .before .before .before .before .before .before .is-class .ensures) (c .before .before .before .before .before .before .before .before .before .before .before .before .before .if1 .left) (c .before .before .before .before .before .before .before .before .before .before .before .before .is-misplaced .result) (c .before .before .before .before .before .before .before .before .before .before .before .before .is-misplaced .ensures) (c .before .before .before .before .before .before .before .before .before .before .before .if2 .left) (c .before .before .before .before .before .before .before .before .before .before .is-full .result) (c .before .before .before .before .before .before .before .before .before .before .is-full .ensures) (c .before .before .before .before .before .before .before .before .before .if3 .left) (c .before .before .before .before .before .before .before .before .body-behind .result) (c .before .before .before .before .before .before .before .before .body-behind .ensures) (c .before .before .before .before .before .before .before .if4 .left) (c .before .before .before .before .state-behind .result) (c .before .align-up .result) (c .register-of .result) (c .before .before .before .before .state-behind .ensures) (c .before .before .if6 .left) (c .before .align-up .ensures) (c .register-of .ensures)
 
 pub take-spec : {M : Type 1} → statement M
 take-spec =
