@@ -6,7 +6,7 @@ use mathlib.Core.List.{List, [], _∷_, _++_}
 use Prim.Native.Nat.{ℕ, suc, _<_}
 use native.Mathlib.Omega.{arith}
 use lib.ListN.{length, getD, set, drop, length-set}
-use lib.Seq.{getD-set-same, getD-set-other}
+use lib.Seq.{getD-set-same, getD-set-other, set-append-left}
 use Rattle.carried.specs.Image.{gather, put}
 use Rattle.carried.specs.Demand.{In, Distinct}
 
@@ -38,6 +38,20 @@ gather-put img (p ∷ ps) (v ∷ vs) d b e =
     ap₂ (λ (a : ℕ) (r : List ℕ). a ∷ r)
     (getD-put-other (set img p v) ps vs p (d .0) ∙ getD-set-same img p v 0 (b p (inl refl)))
     (gather-put (set img p v) ps vs (d .1) (λ q m. rw length-set (b q (inr m))) (omega arith))
+
+-- stores one after the other
+pub put-append : (img ps qs us vs : List ℕ) → length us ≡ length ps → put img (ps ++ qs) (us ++ vs) ≡ put (put img ps us) qs vs
+put-append img [] qs [] vs e = refl
+put-append img [] qs (u ∷ us) vs e = absurd (omega arith)
+put-append img (p ∷ ps) qs [] vs e = absurd (omega arith)
+put-append img (p ∷ ps) qs (u ∷ us) vs e = put-append (set img p u) ps qs us vs (omega arith)
+
+-- stores into the first of two parts
+pub put-left : (a x ps vs : List ℕ) → ((p : ℕ) → In p ps → p < length a) → put (a ++ x) ps vs ≡ put a ps vs ++ x
+put-left a x [] vs h = refl
+put-left a x (p ∷ ps) [] h = refl
+put-left a x (p ∷ ps) (v ∷ vs) h =
+    rw (set-append-left a x p v (h p (inl refl))) (put-left (set a p v) x ps vs (λ q m. rw length-set (h q (inr m))))
 
 -- two images agree on these bytes exactly when the same is gathered from both
 pub gather-agree : (a b ps : List ℕ) → ((p : ℕ) → In p ps → getD a p 0 ≡ getD b p 0) → gather a ps ≡ gather b ps

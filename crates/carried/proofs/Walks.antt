@@ -1,6 +1,6 @@
 -- What each step of a convention must give, and what follows for a whole signature: each record's bytes are new, and inside the image.
 -- Assumes nothing.
-use mathlib.Core.Path.{_≡_, refl, sym, ap₂, subst}
+use mathlib.Core.Path.{_≡_, refl, sym, ap, ap₂, subst}
 use mathlib.Core.List.{List, [], _∷_, _++_}
 use mathlib.Core.Bool.{Bool, true, false, cond}
 use Prim.Native.Nat.{ℕ, zero, suc, _≤_, _<_}
@@ -42,32 +42,50 @@ module _ (c : Convention) (laws : Laws c) where
     one : {st st′ last : c .State} {k : ℕ} {p : c .Placement} {ks : List ℕ} {L : List Placed}
         → c .step st k ≡ next p st′ → c .fits st′ ≡ true → Walk st′ ks L last → Walk st (k ∷ ks) (c .placedAt k p ∷ L) last
 
-  abbrev Walked : c .State → List ℕ → Plan (c .State) → Type 0
-  Walked st ks (bad r at) = Unit {0}
-  Walked st ks (good L last) = Walk st ks L last
+  -- the records of a plan walk by some kinds; those of a signature by the signature itself
+  pub record Walked (bodies : Bool) (n : ℕ) (l : List ℕ) (st : c .State) (L : List Placed) (last : c .State) : Type 0 where
+    pub kinds-of : List ℕ
+    pub walk : Walk st kinds-of L last
+    pub all : bodies ≡ false → n ≡ 0 → kinds-of ≡ l
 
-  walked : (ks : List ℕ) (at : ℕ) (st : c .State) → Walked st ks (from c false at st 0 ks)
-  walked [] at st = end
-  walked (k ∷ ks) at st = go (c .step st k) refl (λ st′. walked ks (suc at) st′)
+  abbrev Found : Bool → ℕ → List ℕ → c .State → Plan (c .State) → Type 0
+  Found bodies n l st (bad r at) = Unit {0}
+  Found bodies n l st (good L last) = Walked bodies n l st L last
+
+  found : (bodies : Bool) (l : List ℕ) (at n : ℕ) (st : c .State) → Found bodies n l st (from c bodies at st n l)
+  found bodies [] at n st = record { kinds-of = []; walk = end; all = λ b z. refl }
+  found bodies (b ∷ l) at (suc n) st = pass (from c bodies (suc at) st n l) (found bodies l (suc at) n st)
     where
-      join : (p : c .Placement) (st′ : c .State) → c .step st k ≡ next p st′ → c .fits st′ ≡ true → (q : Plan (c .State)) → Walked st′ ks q
-          → Walked st (k ∷ ks) (also (c .placedAt k p) q)
-      join p st′ e f (bad r at′) w = tt
-      join p st′ e f (good L last) w = one e f w
+      pass : (q : Plan (c .State)) → Found bodies n l st q → Found bodies (suc n) (b ∷ l) st q
+      pass (bad r at′) w = tt
+      pass (good L last) w = record { kinds-of = w .kinds-of; walk = w .walk; all = λ b z. absurd (omega arith) }
+  found bodies (k ∷ l) at zero st = go (c .step st k) refl (λ n st′. found bodies l (suc at) n st′)
+    where
+      join : (p : c .Placement) (st′ : c .State) → c .step st k ≡ next p st′ → c .fits st′ ≡ true → (n : ℕ) → (bodies ≡ false → n ≡ 0)
+          → (q : Plan (c .State)) → Found bodies n l st′ q → Found bodies 0 (k ∷ l) st (also (c .placedAt k p) q)
+      join p st′ e f n z (bad r at′) w = tt
+      join p st′ e f n z (good L last) w = record { kinds-of = k ∷ w .kinds-of; walk = one e f (w .walk); all = λ b y. ap (λ (r : List ℕ). k ∷ r) (w .all b (z b)) }
 
-      fit : (p : c .Placement) (st′ : c .State) → c .step st k ≡ next p st′ → (t : Bool) → c .fits st′ ≡ t → (r : ℕ → c .State → Plan (c .State)) → ((n : ℕ) (st″ : c .State) → Walked st″ ks (r n st″))
-          → Walked st (k ∷ ks) (after c at k (cond t (next p st′) (refuse 5)) r)
-      fit p st′ e false f r w = tt
-      fit p st′ e true f r w = join p st′ e f (r (c .placedAt k p .size) st′) (w (c .placedAt k p .size) st′)
+      fit : (p : c .Placement) (st′ : c .State) → c .step st k ≡ next p st′ → (t u : Bool) → c .fits st′ ≡ u → ((n : ℕ) (st″ : c .State) → Found bodies n l st″ (from c bodies (suc at) st″ n l))
+          → Found bodies 0 (k ∷ l) st (after c at k (cond t (refuse 4) (cond u (next p st′) (refuse 5))) (λ size st″. from c bodies (suc at) st″ (behind bodies size) l))
+      fit p st′ e true u f w = tt
+      fit p st′ e false false f w = tt
+      fit p st′ e false true f w =
+          let n : ℕ = behind bodies (c .placedAt k p .size) in
+          join p st′ e f n (λ b. rw b refl) (from c bodies (suc at) st′ n l) (w n st′)
 
-      go : (s : Step (c .Placement) (c .State)) → c .step st k ≡ s → ((st′ : c .State) → Walked st′ ks (from c false (suc at) st′ 0 ks))
-          → Walked st (k ∷ ks) (after c at k (limited c false (length ks) k s) (λ size st′. from c false (suc at) st′ (behind false size) ks))
+      go : (s : Step (c .Placement) (c .State)) → c .step st k ≡ s → ((n : ℕ) (st′ : c .State) → Found bodies n l st′ (from c bodies (suc at) st′ n l))
+          → Found bodies 0 (k ∷ l) st (after c at k (limited c bodies (length l) k s) (λ size st′. from c bodies (suc at) st′ (behind bodies size) l))
       go (refuse r) e w = tt
-      go (next p st′) e w = rw (le-ltb (length ks) 0 (omega arith))
-          (fit p st′ e (c .fits st′) refl (λ n st″. from c false (suc at) st″ 0 ks) (λ n st″. w st″))
+      go (next p st′) e w = fit p st′ e (ltb (length l) (behind bodies (c .placedAt k p .size))) (c .fits st′) refl w
+
+  pub walked : (bodies : Bool) (l : List ℕ) (at n : ℕ) (st : c .State) (L : List Placed) (last : c .State) → from c bodies at st n l ≡ good L last → Walked bodies n l st L last
+  walked bodies l at n st L last e = subst (Found bodies n l st) e (found bodies l at n st)
 
   pub walk-of : (ks : List ℕ) (st : c .State) (L : List Placed) (last : c .State) (at : ℕ) → from c false at st 0 ks ≡ good L last → Walk st ks L last
-  walk-of ks st L last at e = subst (Walked st ks) e (walked ks at st)
+  walk-of ks st L last at e =
+      let w : Walked false 0 ks st L last = walked false ks at 0 st L last e in
+      subst (λ (x : List ℕ). Walk st x L last) (w .all refl refl) (w .walk)
 
   laws-at : {st st′ : c .State} {k : ℕ} {p : c .Placement} → c .step st k ≡ next p st′ → StepLaws c (laws .Free) st k (c .placedAt k p) st′
   laws-at {st} {st′} {k} {p} e = subst (StepLawful c (laws .Free) st k) e (laws .steps st k)
@@ -80,9 +98,13 @@ module _ (c : Convention) (laws : Laws c) where
   walk-sized end = tt
   walk-sized (one e f w) = (laws-at e .sized, walk-sized w)
 
-  walk-grows : {st last : c .State} {ks : List ℕ} {L : List Placed} → Walk st ks L last → c .imageLength st ≤ c .imageLength last
+  pub walk-grows : {st last : c .State} {ks : List ℕ} {L : List Placed} → Walk st ks L last → c .imageLength st ≤ c .imageLength last
   walk-grows end = omega arith
   walk-grows (one e f w) = omega (arith, laws-at e .grows, walk-grows w)
+
+  pub walk-fits : {st last : c .State} {ks : List ℕ} {L : List Placed} → Walk st ks L last → c .fits st ≡ true → c .fits last ≡ true
+  walk-fits end h = h
+  walk-fits (one e f w) h = walk-fits w f
 
   walk-free : {st last : c .State} {ks : List ℕ} {L : List Placed} → Walk st ks L last → (p : ℕ) → In p (carried L) → laws .Free st p
   walk-free end p m = absurd m

@@ -22,30 +22,8 @@ use Rattle.o32.specs.Offsets.{width, offset, ending}
 use Rattle.o32.specs.O32.{register, run, registerWord, floatBytes, carrier, carriers, misplaced, full, onward, stepped, O32}
 use Rattle.placement.specs.Carrying.{endOf, registerBehind, CarriedAt}
 use Rattle.placement.proofs.KindFacts.{kind-sound}
+use Rattle.placement.proofs.Steps.{placement, Stepped, Says, says}
 use Rattle.placement.proofs.Laws.{O32-laws, length-span, length-float}
-
--- ---- what a step that places a record says
-
-abbrev placement : State → Kind → Placement
-placement st k = record { kind = k; offset = offset k (st .end); register = register st k }
-
-record Stepped (st : State) (k : Kind) (p : Placement) (st′ : State) : Type 0 where
-  at : p ≡ placement st k
-  on : st′ ≡ onward st k
-  rightly : misplaced st k ≡ false
-
-abbrev Says : State → Kind → Step Placement State → Type 0
-Says st k (refuse r) = Unit {0}
-Says st k (next p st′) = Stepped st k p st′
-
-says : (st : State) (k : Kind) → Says st k (stepped st k)
-says st k = go (is Unknown k) (misplaced st k) (full st k) refl
-  where
-    go : (u m f : Bool) → misplaced st k ≡ m → Says st k (cond u (refuse 1) (cond m (refuse 2) (cond f (refuse 3) (next (placement st k) (onward st k)))))
-    go true m f e = tt
-    go false true f e = tt
-    go false false true e = tt
-    go false false false e = record { at = refl; on = refl; rightly = e }
 
 -- ---- the state behind some kinds
 

@@ -41,7 +41,7 @@ pub length-run : (n p : ℕ) → length (run p n) ≡ n
 length-run zero p = refl
 length-run (suc n) p = ap suc (length-run n (suc p))
 
-run-at : (n q p : ℕ) → In p (run q n) → (q ≤ p) × (p < q + n)
+pub run-at : (n q p : ℕ) → In p (run q n) → (q ≤ p) × (p < q + n)
 run-at zero q p m = absurd m
 run-at (suc n) q p (inl e) = omega arith
 run-at (suc n) q p (inr m) = omega (arith, run-at n (suc q) p m)
@@ -229,7 +229,7 @@ module _ (st : State) (k n a : ℕ) where
   step-gives : (c : Class) → Sound (of c) → Gives st k (stepped st (of c))
   step-gives Unknown s = tt
   step-gives Marker s = unless st k (misplaced st (of Marker)) 2 _
-      (rw (s .markers refl) (laid st k 0 (zeros 0) (st .end) 0 _ (omega arith) (omega arith) (omega arith) (λ b x. x)))
+      (rw (s .markers refl .0) (laid st k 0 (zeros 0) (st .end) 0 _ (omega arith) (omega arith) (omega arith) (λ b x. x)))
   step-gives Pointer s =
       unless st k (misplaced st (of Pointer)) 2 _ (unless st k (full st (of Pointer)) 3 _ (by-offset (zeros 0) n _ refl refl (s .aligned refl) (λ b x. x)))
   step-gives Signed s =

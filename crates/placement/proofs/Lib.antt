@@ -1,3 +1,4 @@
 pub mod KindFacts
 pub mod Laws
+pub mod Steps
 pub mod Carrying

@@ -20,6 +20,7 @@ use Rattle.o32.specs.Offsets.{width, up, offset, ending}
 use Rattle.o32.specs.O32.{O32, register, misplaced, full, onward, stepped}
 use Rattle.records.specs.Records.{Alignment, recordOf}
 use Rattle.placement.proofs.KindFacts.{kind-sound}
+use Rattle.placement.proofs.Steps.{onward-grows}
 use Rattle.placement.proofs.Laws.{up-ge, up-le}
 
 pub same-class : (a b : Class) (x y : ℕ) → x ≡ classNumber a → y ≡ classNumber b → eqb x y ≡ eqb (classNumber a) (classNumber b)
@@ -129,13 +130,6 @@ module _ (st : State) (k : Kind) where
   counts u f g h = leb-false 32 (st .count) (argument-fits u f g ∙ h)
 
 -- ---- the record step: the tests that a record has passed, and the answer where one fails
-
-onward-grows : (st : State) (k : ℕ) → is Unknown (kindOf k) ≡ false → st .end ≤ onward st (kindOf k) .end
-onward-grows st k e = go (is Marker (kindOf k)) refl
-  where
-    go : (t : Bool) → is Marker (kindOf k) ≡ t → st .end ≤ onward st (kindOf k) .end
-    go true f = rw f (omega arith)
-    go false f = rw f (omega (arith, up-ge (kindOf k .alignment) (st .end) (kind-sound k .aligned (rw (e, f) refl))))
 
 module _ (st : State) (k : ℕ) (bodies : Bool) (left : ℕ) (kd : Kind) (e : kd ≡ kindOf k) where
   abbrev Given : Record → Type 0

@@ -1,0 +1,183 @@
+// The register block, an array of eight words passed and returned by value, and the stores of one argument into it and into
+// the area.
+ghost use mathlib.Core.List.{map};
+ghost use mathlib.Core.Path.{_≡_};
+ghost use Prim.Native.Nat.{_%_, _+_, _<_, _≤_};
+ghost use lib.ListN.{drop, length, set, take};
+ghost use Rattle.words.specs.Words.{bytesOf, promote, toWord};
+ghost use Rattle.carried.specs.Image.{put};
+ghost use Rattle.o32.specs.Offsets.{extension};
+ghost use Rattle.o32.specs.O32.{carrier, carriers, floatBytes, run};
+ghost use Rattle.block.specs.Block.{Fit, Floating, blockBytes, whole};
+use o32::Class;
+use o32::Placement;
+
+// The big-endian word at a place.
+pub fn word_at(src: &[u8], at: usize) -> u32
+    requires { ⌜ at + 4 ≤ length (now src) ⌝ }
+    ensures { λ r. ⌜ bytesOf 4 r ≡ take 4 (drop at (now (src .entry))) ⌝ }
+{
+    (src[at] as u32) * 16777216
+        + (src[at + 1] as u32) * 65536
+        + (src[at + 2] as u32) * 256
+        + src[at + 3] as u32
+}
+
+// The word that the byte (size 1) or halfword (size 2) at a place becomes.
+pub fn promoted_at(src: &[u8], at: usize, size: usize, signed: bool) -> u32
+    requires { ⌜ (1 ≤ size) × (size ≤ 2) ⌝ }
+    requires { ⌜ at + size ≤ length (now src) ⌝ }
+    ensures { λ r. ⌜ bytesOf 4 r ≡ promote (toWord signed size) (take size (drop at (now (src .entry)))) ⌝ }
+{
+    if size == 1 {
+        return words::promote_byte(src[at], signed);
+    }
+    let h = (src[at] as u16) * 256 + src[at + 1] as u16;
+    words::promote_halfword(h, signed)
+}
+
+// A word big-endian at a place.
+fn write_word(out: &mut [u8], at: usize, w: u32)
+    requires { ⌜ at + 4 ≤ length (now out) ⌝ }
+    ensures { λ _. ⌜ now (out .exit) ≡ put (now (out .entry)) (run at 4) (bytesOf 4 w) ⌝ }
+{
+    out[at] = (w / 16777216) as u8;
+    out[at + 1] = (w / 65536 % 256) as u8;
+    out[at + 2] = (w / 256 % 256) as u8;
+    out[at + 3] = (w % 256) as u8;
+}
+
+// The block's words into the first 32 bytes of the image.
+pub fn write_block(block: [u32; 8], out: &mut [u8])
+    requires { ⌜ 32 ≤ length (now out) ⌝ }
+    ensures { λ _. ⌜ now (out .exit) ≡ whole block (now (out .entry)) ⌝ }
+{
+    let mut i = 0;
+    while i < 8 {
+        write_word(out, i * 4, block[i]);
+        i += 1;
+    }
+}
+
+// Bytes of a list into the area.
+fn copy(out: &mut [u8], to: usize, src: &[u8], at: usize, n: usize)
+    requires { ⌜ (to + n ≤ length (now out)) × (at + n ≤ length (now src)) ⌝ }
+    ensures { λ _. ⌜ now (out .exit) ≡ put (now (out .entry)) (run to n) (take n (drop at (now (src .entry)))) ⌝ }
+{
+    let mut i = 0;
+    while i < n {
+        out[to + i] = src[at + i];
+        i += 1;
+    }
+}
+
+// A word with its byte k, counted from the first, replaced.
+fn with_byte(w: u32, k: usize, b: u8) -> u32
+    requires { ⌜ k < 4 ⌝ }
+    ensures { λ r. ⌜ bytesOf 4 r ≡ set (bytesOf 4 w) k b ⌝ }
+{
+    let v = b as u32;
+    match k {
+        0 => v * 16777216 + w % 16777216,
+        1 => w / 16777216 * 16777216 + v * 65536 + w % 65536,
+        2 => w / 65536 * 65536 + v * 256 + w % 256,
+        _ => w / 256 * 256 + v,
+    }
+}
+
+// Bytes of a list into the block, from its byte o on.
+fn put_low(block: [u32; 8], o: usize, src: &[u8], at: usize, n: usize) -> [u32; 8]
+    requires { ⌜ (o + n ≤ 16) × (at + n ≤ length (now src)) ⌝ }
+    ensures { λ r. ⌜ blockBytes r ≡ put (blockBytes block) (run o n) (take n (drop at (now (src .entry)))) ⌝ }
+{
+    let mut next = block;
+    let mut i = 0;
+    while i < n {
+        let j = (o + i) / 4;
+        next[j] = with_byte(next[j], (o + i) % 4, src[at + i]);
+        i += 1;
+    }
+    next
+}
+
+// A word of the arguments' structure: below offset 16 in the block, else in the area.
+fn put_word(block: [u32; 8], out: &mut [u8], o: usize, w: u32) -> [u32; 8]
+    requires { ⌜ o % 4 ≡ 0 ⌝ }
+    requires { ⌜ (o ≤ 1024) × (36 + o ≤ length (now out)) ⌝ }
+    ensures { λ r. ⌜ whole r (now (out .exit)) ≡ put (whole block (now (out .entry))) (map carrier (run o 4)) (bytesOf 4 w) ⌝ }
+{
+    if o < 16 {
+        let mut next = block;
+        next[o / 4] = w;
+        return next;
+    }
+    write_word(out, 32 + o, w);
+    block
+}
+
+// A float into the words of its register, and of the next one where it is a double.
+fn put_float(block: [u32; 8], register: usize, src: &[u8], at: usize, size: usize) -> [u32; 8]
+    requires { ⌜ Floating register size ⌝ }
+    requires { ⌜ at + size ≤ length (now src) ⌝ }
+    ensures { λ r. ⌜ blockBytes r ≡ put (blockBytes block) (floatBytes register size) (take size (drop at (now (src .entry)))) ⌝ }
+{
+    let i = register - 8;
+    let mut next = block;
+    next[i] = word_at(src, at);
+    if size == 8 {
+        next[i + 1] = word_at(src, at + 4);
+    }
+    next
+}
+
+// Bytes of a list at an offset: those below 16 into the block, the rest into the area.
+fn put_plain(
+    block: [u32; 8],
+    out: &mut [u8],
+    o: usize,
+    src: &[u8],
+    at: usize,
+    size: usize,
+) -> [u32; 8]
+    requires { ⌜ (48 ≤ length (now out)) × (32 + (o + size) ≤ length (now out)) ⌝ }
+    requires { ⌜ at + size ≤ length (now src) ⌝ }
+    ensures { λ r. ⌜ whole r (now (out .exit)) ≡ put (whole block (now (out .entry))) (map carrier (run o size)) (take size (drop at (now (src .entry)))) ⌝ }
+{
+    if 16 <= o {
+        copy(out, 32 + o, src, at, size);
+        return block;
+    }
+    let low = 16 - o;
+    if size <= low {
+        return put_low(block, o, src, at, size);
+    }
+    copy(out, 48, src, at + low, size - low);
+    put_low(block, o, src, at, low)
+}
+
+// An argument's bytes after promotion, at the image bytes that carry them.
+pub fn put_argument(
+    block: [u32; 8],
+    out: &mut [u8],
+    place: Placement,
+    src: &[u8],
+    at: usize,
+) -> [u32; 8]
+    requires { ⌜ Fit place (length (now out)) ⌝ }
+    requires { ⌜ at + place .kind .size ≤ length (now src) ⌝ }
+    ensures { λ r. ⌜ whole r (now (out .exit)) ≡ put (whole block (now (out .entry))) (carriers place) (promote (extension (place .kind)) (take (place .kind .size) (drop at (now (src .entry))))) ⌝ }
+{
+    let kind = place.kind;
+    let size = kind.size;
+    let register = place.register;
+    if register != 0 {
+        return put_float(block, register, src, at, size);
+    }
+    if records::is_class(Class::Signed, kind) {
+        return put_word(block, out, place.offset, promoted_at(src, at, size, true));
+    }
+    if records::is_class(Class::Unsigned, kind) {
+        return put_word(block, out, place.offset, promoted_at(src, at, size, false));
+    }
+    put_plain(block, out, place.offset, src, at, size)
+}
