@@ -27,8 +27,8 @@ pub bounds : {f size : ℕ} → Floating f size → (12 ≤ f) × (f ≤ 14) × 
 bounds h = four (λ (f size : ℕ). (12 ≤ f) × (f ≤ 14) × (4 ≤ size) × (4 * (f - 8) + size ≤ 32)) (omega arith) (omega arith) (omega arith) (omega arith) h
 
 -- the bytes of a float lie together
-pair-run : {f size : ℕ} → Floating f size → floatBytes f size ≡ run (4 * (f - 8)) size
-pair-run h = four (λ (f size : ℕ). floatBytes f size ≡ run (4 * (f - 8)) size) refl refl refl refl h
+pub float-run : {f size : ℕ} → Floating f size → floatBytes f size ≡ run (4 * (f - 8)) size
+float-run h = four (λ (f size : ℕ). floatBytes f size ≡ run (4 * (f - 8)) size) refl refl refl refl h
 
 single : {f size : ℕ} → Floating f size → (size ≡ 8 → ⊥) → size ≡ 4
 single h n = elim (h .sized) [ inl e ↦ e | inr e ↦ absurd (n e) ]
@@ -38,7 +38,7 @@ module _ (block src : List ℕ) (words : length block ≡ 8) {f size : ℕ} (flo
   one-word = word-stored block (f - 8) u (omega (arith, bounds float)) ∙ ap (put (blockBytes block) (run (4 * (f - 8)) 4)) first
 
   pub float-single : (size ≡ 8 → ⊥) → blockBytes (set block (f - 8) u) ≡ put (blockBytes block) (floatBytes f size) (take size (drop at src))
-  float-single n = rw (pair-run float, single float n) one-word
+  float-single n = rw (float-run float, single float n) one-word
 
   pub float-double : (v : ℕ) → size ≡ 8 → at + size ≤ length src → bytesOf 4 v ≡ take 4 (drop (at + 4) src)
       → blockBytes (set (set block (f - 8) u) (f - 8 + 1) v) ≡ put (blockBytes block) (floatBytes f size) (take size (drop at src))
@@ -51,10 +51,10 @@ module _ (block src : List ℕ) (words : length block ≡ 8) {f size : ℕ} (flo
       ∙ ap₂ (λ (k : ℕ) (vs : List ℕ). put (put img (run p 4) (take 4 (drop at src))) (run k 4) vs) q second
       ∙ store-behind img src 4 4 p (p + 4) at (omega arith)
       ∙ ap (λ (ps : List ℕ). put img ps (take 8 (drop at src))) (sym (run-add 4 4 p))
-      ∙ rw (pair-run float, e)
+      ∙ rw (float-run float, e)
 
 -- and so the image
 pub float-whole : (block r out vs : List ℕ) → length block ≡ 8 → {f size : ℕ} → Floating f size → blockBytes r ≡ put (blockBytes block) (floatBytes f size) vs
     → whole r out ≡ put (whole block out) (floatBytes f size) vs
 float-whole block r out vs l {f} {size} float e =
-    rw (pair-run float) (whole-low block l r out size (4 * (f - 8)) vs (omega (arith, bounds float)) (rw (pair-run float) at e))
+    rw (float-run float) (whole-low block l r out size (4 * (f - 8)) vs (omega (arith, bounds float)) (rw (float-run float) at e))

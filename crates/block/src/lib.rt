@@ -59,8 +59,8 @@ pub fn write_block(block: [u32; 8], out: &mut [u8])
     }
 }
 
-// Bytes of a list into the area.
-fn copy(out: &mut [u8], to: usize, src: &[u8], at: usize, n: usize)
+// A run of bytes of one slice into another.
+pub fn copy(out: &mut [u8], to: usize, src: &[u8], at: usize, n: usize)
     requires { ⌜ (to + n ≤ length (now out)) × (at + n ≤ length (now src)) ⌝ }
     ensures { λ _. ⌜ now (out .exit) ≡ put (now (out .entry)) (run to n) (take n (drop at (now (src .entry)))) ⌝ }
 {

@@ -2,7 +2,7 @@
 -- Assumes nothing.
 use mathlib.Core.Path.{_≡_, refl, sym, ap, _∙_}
 use mathlib.Core.List.{List, [], _∷_, _++_, append-assoc}
-use mathlib.Core.Bool.{true}
+use mathlib.Core.Bool.{Bool, true}
 use Prim.Native.Nat.{ℕ, suc, _+_, _-_, _≤_, _<_}
 use native.Mathlib.Omega.{arith}
 use native.Mathlib.Numerals.{add-one}
@@ -36,14 +36,14 @@ fillable list count end n e g = go (plan O32 true list) refl e
         let i : end ≡ st .end = cc in
         record { placed = L; last = st; planned = f; whole = g ∙ ap (λ (x : ℕ). 32 + area x) i }
 
-pub end-in-bounds : (list : List ℕ) (count end : ℕ) → M.Accepted count end ≡ measured (plan O32 true list) → end ≤ 1024
-end-in-bounds list count end e = go (plan O32 true list) refl e
+pub end-in-bounds : (bodies : Bool) (list : List ℕ) (count end : ℕ) → M.Accepted count end ≡ measured (plan O32 bodies list) → end ≤ 1024
+end-in-bounds bodies list count end e = go (plan O32 bodies list) refl e
   where
-    go : (q : Plan State) → plan O32 true list ≡ q → M.Accepted count end ≡ measured q → end ≤ 1024
+    go : (q : Plan State) → plan O32 bodies list ≡ q → M.Accepted count end ≡ measured q → end ≤ 1024
     go (bad r at) f h = let z : _≡_ {A = ℕ} 0 1 = cc in absurd (omega arith)
     go (good L st) f h =
         let i : end ≡ st .end = cc in
-        let w : leb (st .end) 1024 ≡ true = walk-fits O32 O32-laws (walked O32 O32-laws true list 0 0 (O32 .start) L st f .walk) refl in
+        let w : leb (st .end) 1024 ≡ true = walk-fits O32 O32-laws (walked O32 O32-laws bodies list 0 0 (O32 .start) L st f .walk) refl in
         omega (arith, leb-true (st .end) 1024 w)
 
 pub wide-enough : (list : List ℕ) (n : ℕ) → Fillable list n → 48 ≤ n

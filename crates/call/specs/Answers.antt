@@ -1,11 +1,12 @@
 -- What the functions with a lent buffer answer ("Refusal numbers").
 use mathlib.Core.List.{List, _++_}
-use mathlib.Core.Bool.{cond}
+use mathlib.Core.Bool.{false, cond}
 use Prim.Native.Nat.{ℕ}
 use lib.ListN.{length, drop}
-use lib.Dec.{ltb}
+use lib.Dec.{eqb, ltb}
 use Rattle.carried.specs.Image as C
-use Rattle.carried.specs.Convention.{write}
+use Rattle.carried.specs.Convention.{Plan, bad, good, plan, write}
+use Rattle.o32.specs.declared.State.{State}
 use Rattle.o32.specs.O32.{O32}
 use Rattle.call.specs.declared.Answer.{Answer}
 
@@ -24,6 +25,18 @@ abbrev pub bufferOf : C.Answer → List ℕ → List ℕ
 bufferOf (C.refused r at) out = out
 bufferOf (C.done x) out = x ++ drop (length x) out
 
+-- The reader's refusals behind those of the signature, "6, 7, 8", in an image and with so many bytes for the list.
+abbrev pub readWith : List ℕ → ℕ → Plan State → C.Answer
+readWith img room (bad r at) = C.refused r at
+readWith img room (good L st) =
+    cond (eqb (length img) (O32 .imageLength st))
+    (cond (ltb room (length (C.reading L img))) (C.refused 7 0) (C.checked 0 L img (C.done (C.reading L img))))
+    (C.refused 6 0)
+
 -- The writer of a list, into a buffer with so many bytes.
 abbrev pub writeInto : List ℕ → ℕ → C.Answer
 writeInto list room = within room (write O32 list)
+
+-- The reader of an image under a signature, into a buffer with so many bytes.
+abbrev pub readInto : List ℕ → List ℕ → ℕ → C.Answer
+readInto sig img room = readWith img room (plan O32 false sig)

@@ -1,4 +1,4 @@
-// The writer: an argument list becomes a call image in a lent buffer.
+// The writer and the reader: an argument list becomes a call image in a lent buffer, and an image its list again.
 ghost use mathlib.Core.List.{_++_};
 ghost use mathlib.Core.Bool.{true};
 ghost use mathlib.Core.Path.{_≡_};
@@ -7,8 +7,10 @@ ghost use lib.ListN.{drop, length, replicate, take};
 ghost use Rattle.carried.specs.Convention.{plan};
 ghost use Rattle.o32.specs.O32.{O32, area};
 ghost use Rattle.block.specs.Block.{whole};
-ghost use Rattle.call.specs.Answers.{answerOf, bufferOf, writeInto};
+ghost use Rattle.call.specs.Answers.{answerOf, bufferOf, readInto, writeInto};
 ghost use Rattle.call.specs.Filling.{Fillable, filled};
+use reader::Checked;
+use reader::Room;
 use records::Measured;
 use records::Record;
 
@@ -103,5 +105,40 @@ pub fn write(list: &[u8], out: &mut [u8]) -> Answer
     clear(out, n);
     let block = fill(list, out, n);
     block::write_block(block, out);
+    reply(0, 0, n)
+}
+
+// The answer where a word is no proper promotion.
+fn improper(found: Checked) -> Answer
+    ensures { λ r. ⌜ ((p : ℕ) → found ≡ Checked.Improper p → r ≡ record { refusal = 8; place = p; length = 0 }) ⌝ }
+{
+    match found {
+        Checked::Improper(place) => reply(8, place, 0),
+        _ => reply(0, 0, 0),
+    }
+}
+
+// The list of an image under a signature. Refusals 1, 2, 3 and 5 by record, then 6, 7, 8; no byte is stored before all are
+// decided.
+pub fn read(signature: &[u8], image: &[u8], out: &mut [u8]) -> Answer
+    ensures answer { λ r. ⌜ r ≡ answerOf (readInto (now (signature .entry)) (now (image .entry)) (length (now (out .entry)))) ⌝ }
+    ensures buffer { λ _. ⌜ now (out .exit) ≡ bufferOf (readInto (now (signature .entry)) (now (image .entry)) (length (now (out .entry)))) (now (out .entry)) ⌝ }
+{
+    let found = records::measure_signature(signature);
+    let Measured::Accepted { count: _, end } = found else {
+        return refused(found);
+    };
+    if image.len() != image_length(end) {
+        return reply(6, 0, 0);
+    }
+    let room = reader::list_length(signature, out.len());
+    let Room::Enough(n) = room else {
+        return reply(7, 0, 0);
+    };
+    let checked = reader::check(signature, image);
+    let Checked::Proper = checked else {
+        return improper(checked);
+    };
+    reader::copy_list(signature, image, out);
     reply(0, 0, n)
 }

@@ -3,3 +3,4 @@ pub mod Readings
 pub mod Walks
 pub mod Theorem
 pub mod Records
+pub mod RoundTrip

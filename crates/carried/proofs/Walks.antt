@@ -90,6 +90,10 @@ module _ (c : Convention) (laws : Laws c) where
   laws-at : {st st′ : c .State} {k : ℕ} {p : c .Placement} → c .step st k ≡ next p st′ → StepLaws c (laws .Free) st k (c .placedAt k p) st′
   laws-at {st} {st′} {k} {p} e = subst (StepLawful c (laws .Free) st k) e (laws .steps st k)
 
+  pub sized-at : {st st′ : c .State} {k : ℕ} {p : c .Placement} → c .step st k ≡ next p st′
+      → (b : List ℕ) → length b ≡ c .placedAt k p .size → length (promote (c .placedAt k p .extension) b) ≡ length (c .placedAt k p .carriers)
+  sized-at e = laws-at e .sized
+
   pub walk-kinds : {st last : c .State} {ks : List ℕ} {L : List Placed} → Walk st ks L last → kinds L ≡ ks
   walk-kinds end = refl
   walk-kinds (one e f w) = ap₂ (λ (k : ℕ) (r : List ℕ). k ∷ r) (laws-at e .kind) (walk-kinds w)

@@ -1,13 +1,13 @@
 -- The carried-bytes theorem, as a statement about the writer and the reader of a convention.
 use mathlib.Core.Path.{_≡_}
-use mathlib.Core.Bool.{true}
+use mathlib.Core.Bool.{true, false}
 use mathlib.Core.Logic.{_⊎_, _↔_}
 use mathlib.Core.List.{List, [], _∷_}
 use Prim.Native.Nat.{ℕ, _<_}
 use lib.ListN.{length, getD}
 use Rattle.words.specs.Words.{promote, proper}
-use Rattle.carried.specs.Image.{Placed, gather, carried, promotedBytes, reading, done}
-use Rattle.carried.specs.Convention.{Convention, write, read}
+use Rattle.carried.specs.Image.{Placed, gather, carried, promotedBytes, image, reading, done}
+use Rattle.carried.specs.Convention.{Convention, good, plan, write, read}
 
 -- p is one of these image bytes.
 abbrev pub In : ℕ → List ℕ → Type 0
@@ -70,3 +70,10 @@ pub record Carried (c : Convention) (sig : List ℕ) (L : List Placed) (n : ℕ)
   -- two images have the same rewriting exactly when they read as the same list
   pub same-rewriting : (a b x y r s : List ℕ) → read c sig a ≡ done x → read c sig b ≡ done y
       → write c x ≡ done r → write c y ≡ done s → (r ≡ s) ↔ (x ≡ y)
+
+-- A list that the writer accepts: its signature places the same records, its image is accepted for it and reads as the list.
+pub record RoundTrip (c : Convention) (l : List ℕ) (L : List Placed) (last : c .State) : Type 0 where
+  pub signature : plan c false (kinds L) ≡ good L last
+  pub written : write c l ≡ done (image (c .imageLength last) L l)
+  pub accepted : Accepted (c .imageLength last) L (image (c .imageLength last) L l)
+  pub reads : read c (kinds L) (image (c .imageLength last) L l) ≡ done l

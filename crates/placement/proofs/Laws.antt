@@ -13,10 +13,11 @@ use borrow.Author.Tests.{ltb-true, ltb-false, eqb-true}
 use Rattle.words.specs.Words.{Extension, zeros, toWord, promote, front}
 use Rattle.carried.specs.Image.{Placed}
 use Rattle.carried.specs.Convention.{Step, refuse, next, good, plan}
-use Rattle.carried.specs.Demand.{In, Distinct, Carried}
+use Rattle.carried.specs.Demand.{In, Distinct, Carried, RoundTrip}
 use Rattle.carried.proofs.Places.{in-cases, distinct-append}
 use Rattle.carried.proofs.Walks.{StepLaws, StepLawful, Laws}
 use Rattle.carried.proofs.Theorem.{theorem}
+use Rattle.carried.proofs.RoundTrip.{round-trip}
 use Rattle.o32.specs.declared.Class.{Class}
 use Rattle.o32.specs.declared.Class.the-variants.{Unknown, Marker, Pointer, Signed, Unsigned, Float, Plain}
 use Rattle.o32.specs.declared.Kind.{Kind}
@@ -249,3 +250,7 @@ O32-laws = record {
 -- The carried-bytes theorem of O32, at every accepted signature.
 pub O32-carried : (sig : List ℕ) (L : List Placed) (last : State) → plan O32 false sig ≡ good L last → Carried O32 sig L (32 + area (last .end))
 O32-carried sig L last ok = theorem O32 O32-laws sig L last ok
+
+-- And reading what its writer wrote gives the list back, for every accepted list.
+pub O32-round-trip : (l : List ℕ) (L : List Placed) (last : State) → plan O32 true l ≡ good L last → RoundTrip O32 l L last
+O32-round-trip l L last ok = round-trip O32 O32-laws l L last ok

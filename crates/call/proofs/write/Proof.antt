@@ -1,6 +1,7 @@
 -- `write` meets its contract: refused by record, refused for a short buffer, or written.
 -- Assumes nothing.
 use mathlib.Core.Path.{sym, _∙_}
+use mathlib.Core.Bool.{true}
 use native.Mathlib.Omega.{arith}
 use Rattle.call.proofs.Writing.{fillable, end-in-bounds, write-refused, write-short, write-done}
 use borrow.Author.Needs.{needs}
@@ -23,7 +24,7 @@ returns : tie.Need-returns
 returns c = let r = write-refused (c .before .before .before .before .before .before .args .list .now) (c .before .before .before .before .before .before .args .out .now) (c .before .before .before .measure-list .result) _ _ (c .refused .result) (c .before .before .before .measure-list .ensures) (c .before .enum-told .given .1) (c .refused .ensures _ _ (c .before .enum-told .given .1)) in (r .answer, r .buffer)
 
 image-length-requires : tie.Need-image-length-requires
-image-length-requires c κs = end-in-bounds (c .before .before .before .before .before .before .args .list .now) _ _ (sym (c .before .found .given .1) ∙ c .before .before .before .measure-list .ensures)
+image-length-requires c κs = end-in-bounds true (c .before .before .before .before .before .before .args .list .now) _ _ (sym (c .before .found .given .1) ∙ c .before .before .before .measure-list .ensures)
 
 reply-requires : tie.Need-reply-requires
 reply-requires c κs = search needs

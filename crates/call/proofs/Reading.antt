@@ -1,0 +1,143 @@
+-- What the reader answers and leaves in the lent buffer: each refusal, and the list.
+-- Assumes nothing.
+use mathlib.Core.Path.{_≡_, refl, sym, ap, ap₂, _∙_}
+use mathlib.Core.List.{List, [], _∷_, _++_}
+use mathlib.Core.Bool.{Bool, true, false, cond}
+use Prim.Native.Nat.{ℕ, suc, _+_, _≤_, _<_}
+use native.Mathlib.Omega.{arith}
+use lib.ListN.{length, drop, length-append}
+use lib.Dec.{eqb, ltb}
+use borrow.Author.Tests.{eq-eqb, ne-eqb, lt-ltb, le-ltb, ltb-true, ltb-false}
+use Rattle.words.specs.Words.{body, proper}
+use Rattle.carried.specs.Image as C
+use Rattle.carried.specs.Image.{gather, Placed, reading}
+use Rattle.carried.specs.Convention.{next, Plan, bad, good, plan}
+use Rattle.carried.proofs.Readings.{length-body, fits-carriers}
+use Rattle.carried.proofs.Walks.{Walk, end, one, walk-of, sized-at}
+use Rattle.o32.specs.declared.Kind.{Kind}
+use Rattle.o32.specs.declared.State.{State}
+use Rattle.o32.specs.declared.Placement.{Placement}
+use Rattle.o32.specs.Kinds.{kindOf}
+use Rattle.o32.specs.O32.{O32, area}
+use Rattle.placement.proofs.Laws.{O32-laws}
+use Rattle.placement.proofs.Steps.{step-says}
+use Rattle.records.specs.declared.Measured.{Measured}
+use Rattle.records.specs.declared.Measured.the-variants as M
+use Rattle.records.specs.Records.{measured}
+use Rattle.reader.specs.declared.Room.the-variants as R
+use Rattle.reader.specs.declared.Checked.{Checked}
+use Rattle.reader.specs.declared.Checked.the-variants as K
+use Rattle.reader.specs.Reading.{listLength, roomFor, firstImproper, improperIn, readingIn, Readable}
+use Rattle.call.specs.declared.Answer.{Answer}
+use Rattle.call.specs.Answers.{answerOf, bufferOf, readInto}
+
+-- the length of a reading is the signature's
+reading-length : {st last : State} {ks : List ℕ} {L : List Placed} → Walk O32 O32-laws st ks L last → (img : List ℕ) → length (reading L img) ≡ listLength ks
+reading-length end img = refl
+reading-length (one {st = st} {st′ = st′} {k = k} {p = p} {L = L} e f w) img =
+    let s : Placed = O32 .placedAt k p in
+    let b : length (body (s .size) (gather img (s .carriers))) ≡ p .kind .size = length-body s img (fits-carriers s (sized-at O32 O32-laws {st = st} {k = k} e)) in
+    let z : p .kind .size ≡ kindOf k .size = ap (λ (x : Placement). x .kind .size) (step-says st k p st′ e .at) in
+    ap suc (length-append (body (s .size) (gather img (s .carriers))) (reading L img) ∙ ap₂ (λ (x y : ℕ). x + y) (b ∙ z) (reading-length w img))
+
+-- refusal 8 by the first improper record
+abbrev judged : ℕ → List Placed → List ℕ → C.Answer → Checked → Type 0
+judged at L img a K.Proper = C.checked at L img a ≡ a
+judged at L img a (K.Improper p) = C.checked at L img a ≡ C.refused 8 p
+
+judge : (L : List Placed) (img : List ℕ) (at : ℕ) (a : C.Answer) → judged at L img a (firstImproper at L img)
+judge [] img at a = refl
+judge (s ∷ L) img at a = go (proper (s .extension) (s .size) (gather img (s .carriers))) refl (firstImproper (suc at) L img) (judge L img (suc at) a)
+  where
+    go : (t : Bool) → proper (s .extension) (s .size) (gather img (s .carriers)) ≡ t → (q : Checked) → judged (suc at) L img a q → judged at (s ∷ L) img a (cond t q (K.Improper at))
+    go true e K.Proper h = rw e h
+    go true e (K.Improper p) h = rw e h
+    go false e q h = rw e refl
+
+judged-by : (L : List Placed) (img : List ℕ) (a : C.Answer) (q : Checked) → q ≡ firstImproper 0 L img → judged 0 L img a q
+judged-by L img a q e = rw e (judge L img 0 a)
+
+-- the first pass has accepted the signature, and the image is as long as it says
+pub readable : (sig img : List ℕ) (count last-end n : ℕ) → M.Accepted count last-end ≡ measured (plan O32 false sig) → n ≡ 32 + area last-end → length img ≡ n → Readable sig img
+readable sig img count last-end n e g l = go (plan O32 false sig) refl e
+  where
+    go : (q : Plan State) → plan O32 false sig ≡ q → M.Accepted count last-end ≡ measured q → Readable sig img
+    go (bad r at) f h = let z : _≡_ {A = ℕ} 0 1 = cc in absurd (omega arith)
+    go (good L st) f h =
+        let i : last-end ≡ st .end = cc in
+        record { placed = L; last = st; planned = f; whole = l ∙ g ∙ ap (λ (x : ℕ). 32 + area x) i }
+
+pub record Right (sig img out : List ℕ) (a : Answer) (o : List ℕ) : Type 0 where
+  pub answer : a ≡ answerOf (readInto sig img (length out))
+  pub buffer : o ≡ bufferOf (readInto sig img (length out)) out
+
+module _ (sig img out : List ℕ) where
+  pub read-refused : (m : Measured) (r p : ℕ) (a : Answer) → m ≡ measured (plan O32 false sig) → m ≡ M.Refused r p → a ≡ record { refusal = r; place = p; length = 0 } → Right sig img out a out
+  read-refused m r p a e g i = go (plan O32 false sig) refl (sym g ∙ e)
+    where
+      go : (q : Plan State) → plan O32 false sig ≡ q → M.Refused r p ≡ measured q → Right sig img out a out
+      go (bad r′ p′) f h =
+          let x : r ≡ r′ = cc in
+          let y : p ≡ p′ = cc in
+          record { answer = i ∙ rw (f, x, y); buffer = rw f }
+      go (good L st) f h = let z : _≡_ {A = ℕ} 0 1 = cc in absurd (omega arith)
+
+  pub read-wrong : (count last-end n : ℕ) → M.Accepted count last-end ≡ measured (plan O32 false sig) → n ≡ 32 + area last-end → (length img ≡ n → ⊥) → Right sig img out (record { refusal = 6; place = 0; length = 0 }) out
+  read-wrong count last-end n e g l = go (plan O32 false sig) refl e
+    where
+      go : (q : Plan State) → plan O32 false sig ≡ q → M.Accepted count last-end ≡ measured q → Right sig img out (record { refusal = 6; place = 0; length = 0 }) out
+      go (bad r at) f h = let z : _≡_ {A = ℕ} 0 1 = cc in absurd (omega arith)
+      go (good L st) f h =
+          let i : last-end ≡ st .end = cc in
+          let k : eqb (length img) (32 + area (st .end)) ≡ false = ne-eqb (length img) (32 + area (st .end)) (λ x. l (x ∙ sym (g ∙ ap (λ (y : ℕ). 32 + area y) i))) in
+          record { answer = rw (f, k); buffer = rw (f, k) }
+
+  module _ (w : Readable sig img) where
+    same-length : eqb (length img) (32 + area (w .last .end)) ≡ true
+    same-length = eq-eqb (length img) (32 + area (w .last .end)) (w .whole)
+
+    long : length (reading (w .placed) img) ≡ listLength sig
+    long = reading-length (walk-of O32 O32-laws sig (O32 .start) (w .placed) (w .last) 0 (w .planned)) img
+
+    pub read-short : R.Short ≡ roomFor (length out) (listLength sig) → Right sig img out (record { refusal = 7; place = 0; length = 0 }) out
+    read-short e =
+        let k : ltb (length out) (length (reading (w .placed) img)) ≡ true = rw long (go (ltb (length out) (listLength sig)) e) in
+        record { answer = rw (w .planned, same-length, k); buffer = rw (w .planned, same-length, k) }
+      where
+        go : (t : Bool) → R.Short ≡ cond t R.Short (R.Enough (listLength sig)) → t ≡ true
+        go true e = refl
+        go false e = cc
+
+    module _ (n : ℕ) (e : R.Enough n ≡ roomFor (length out) (listLength sig)) where
+      enough : ltb (length out) (length (reading (w .placed) img)) ≡ false
+      enough = rw long (go (ltb (length out) (listLength sig)) e)
+        where
+          go : (t : Bool) → R.Enough n ≡ cond t R.Short (R.Enough (listLength sig)) → t ≡ false
+          go true e = cc
+          go false e = refl
+
+      counted : n ≡ listLength sig
+      counted = go (ltb (length out) (listLength sig)) e
+        where
+          go : (t : Bool) → R.Enough n ≡ cond t R.Short (R.Enough (listLength sig)) → n ≡ listLength sig
+          go true e = cc
+          go false e = cc
+
+      pub read-room : listLength sig ≤ length out
+      read-room = rw long at (ltb-false (length out) (length (reading (w .placed) img)) enough)
+
+      pub read-improper : (q : Checked) (p : ℕ) (a : Answer) → q ≡ improperIn (plan O32 false sig) img → q ≡ K.Improper p → a ≡ record { refusal = 8; place = p; length = 0 } → Right sig img out a out
+      read-improper q p a i j k =
+          let c : C.checked 0 (w .placed) img (C.done (reading (w .placed) img)) ≡ C.refused 8 p =
+          rw j at (judged-by (w .placed) img (C.done (reading (w .placed) img)) q (i ∙ rw (w .planned))) in
+          record { answer = k ∙ rw (w .planned, same-length, enough, c); buffer = rw (w .planned, same-length, enough, c) }
+
+      pub read-done : (q : Checked) (o : List ℕ) → q ≡ improperIn (plan O32 false sig) img → q ≡ K.Proper → o ≡ readingIn (plan O32 false sig) img ++ drop (listLength sig) out
+          → Right sig img out (record { refusal = 0; place = 0; length = n }) o
+      read-done q o i j k =
+          let c : C.checked 0 (w .placed) img (C.done (reading (w .placed) img)) ≡ C.done (reading (w .placed) img) =
+          rw j at (judged-by (w .placed) img (C.done (reading (w .placed) img)) q (i ∙ rw (w .planned))) in
+          record {
+            answer = rw (counted, ← long) (rw (w .planned, same-length, enough, c));
+            buffer = k ∙ rw (w .planned, same-length, enough, c, long);
+          }

@@ -1,0 +1,103 @@
+-- `read` meets its contract: each refusal in its order, or the list.
+-- Assumes nothing.
+use mathlib.Core.Path.{sym, _∙_}
+use mathlib.Core.Bool.{false}
+use native.Mathlib.Omega.{arith}
+use Rattle.call.proofs.Writing.{end-in-bounds}
+use Rattle.call.proofs.Reading.{readable, read-refused, read-wrong, read-short, read-room, read-improper, read-done}
+use borrow.Author.Needs.{needs}
+use Rattle.call.proofs.read.Statement.{statement}
+use Rattle.call.proofs.read.Tie as tie
+
+measure-signature-requires : tie.Need-measure-signature-requires
+measure-signature-requires c κs = search needs
+
+enum-known-found : tie.Need-enum-known-found
+enum-known-found c = search needs
+
+enum-told : tie.Need-enum-told
+enum-told c = search needs
+
+refused-requires : tie.Need-refused-requires
+refused-requires c κs = search needs
+
+returns : tie.Need-returns
+returns c = let r = read-refused (c .before .before .before .before .before .before .before .args .signature .now) (c .before .before .before .before .before .before .before .args .image .now) (c .before .before .before .before .before .before .before .args .out .now) (c .before .before .before .measure-signature .result) _ _ (c .refused .result) (c .before .before .before .measure-signature .ensures) (c .before .enum-told .given .1) (c .refused .ensures _ _ (c .before .enum-told .given .1)) in (r .answer, r .buffer)
+
+image-length-requires : tie.Need-image-length-requires
+image-length-requires c κs = end-in-bounds false (c .before .before .before .before .before .before .before .args .signature .now) _ _ (sym (c .before .found .given .1) ∙ c .before .before .before .measure-signature .ensures)
+
+reply-requires : tie.Need-reply-requires
+reply-requires c κs = search needs
+
+returns-2 : tie.Need-returns-2
+returns-2 c = let r = read-wrong (c .before .before .before .before .before .before .before .before .before .before .args .signature .now) (c .before .before .before .before .before .before .before .before .before .before .args .image .now) (c .before .before .before .before .before .before .before .before .before .before .args .out .now) _ (c .before .before .before .before .found .given .0 .1 .0) (c .before .before .image-length .result) (sym (c .before .before .before .before .found .given .1) ∙ c .before .before .before .before .before .before .measure-signature .ensures) (c .before .before .image-length .ensures) (c .before .if1 .taken) in (c .reply .ensures ∙ r .answer, r .buffer)
+
+list-length-requires : tie.Need-list-length-requires
+list-length-requires c κs = search needs
+
+enum-known-room : tie.Need-enum-known-room
+enum-known-room c = search needs
+
+enum-told-2 : tie.Need-enum-told-2
+enum-told-2 c = search needs
+
+reply-requires-2 : tie.Need-reply-requires-2
+reply-requires-2 c κs = search needs
+
+returns-3 : tie.Need-returns-3
+returns-3 c = let r = read-short (c .before .before .before .before .before .before .before .before .before .before .before .before .before .args .signature .now) (c .before .before .before .before .before .before .before .before .before .before .before .before .before .args .image .now) (c .before .before .before .before .before .before .before .before .before .before .before .before .before .args .out .now) (readable (c .before .before .before .before .before .before .before .before .before .before .before .before .before .args .signature .now) (c .before .before .before .before .before .before .before .before .before .before .before .before .before .args .image .now) _ (c .before .before .before .before .before .before .before .found .given .0 .1 .0) (c .before .before .before .before .before .image-length .result) (sym (c .before .before .before .before .before .before .before .found .given .1) ∙ c .before .before .before .before .before .before .before .before .before .measure-signature .ensures) (c .before .before .before .before .before .image-length .ensures) (c .before .before .before .before .if1 .left)) (sym (c .before .enum-told2 .given .1) ∙ c .before .before .before .list-length .ensures) in (c .reply2 .ensures ∙ r .answer, r .buffer)
+
+check-requires : tie.Need-check-requires
+check-requires c κs = (readable (c .before .before .before .before .before .before .before .before .before .before .before .before .before .args .signature .now) (c .before .before .before .before .before .before .before .before .before .before .before .before .before .args .image .now) _ (c .before .before .before .before .before .before .before .found .given .0 .1 .0) (c .before .before .before .before .before .image-length .result) (sym (c .before .before .before .before .before .before .before .found .given .1) ∙ c .before .before .before .before .before .before .before .before .before .measure-signature .ensures) (c .before .before .before .before .before .image-length .ensures) (c .before .before .before .before .if1 .left))
+
+enum-told-3 : tie.Need-enum-told-3
+enum-told-3 c = search needs
+
+enum-told-4 : tie.Need-enum-told-4
+enum-told-4 c = search needs
+
+improper-requires : tie.Need-improper-requires
+improper-requires c κs = search needs
+
+returns-4 : tie.Need-returns-4
+returns-4 c = let r = read-improper (c .before .before .before .before .before .before .before .before .before .before .before .before .before .before .before .before .before .args .signature .now) (c .before .before .before .before .before .before .before .before .before .before .before .before .before .before .before .before .before .args .image .now) (c .before .before .before .before .before .before .before .before .before .before .before .before .before .before .before .before .before .args .out .now) (readable (c .before .before .before .before .before .before .before .before .before .before .before .before .before .before .before .before .before .args .signature .now) (c .before .before .before .before .before .before .before .before .before .before .before .before .before .before .before .before .before .args .image .now) _ (c .before .before .before .before .before .before .before .before .before .before .before .found .given .0 .1 .0) (c .before .before .before .before .before .before .before .before .before .image-length .result) (sym (c .before .before .before .before .before .before .before .before .before .before .before .found .given .1) ∙ c .before .before .before .before .before .before .before .before .before .before .before .before .before .measure-signature .ensures) (c .before .before .before .before .before .before .before .before .before .image-length .ensures) (c .before .before .before .before .before .before .before .before .if1 .left)) (c .before .before .before .before .before .room .given .0 .0) (sym (c .before .before .before .before .before .room .given .1) ∙ c .before .before .before .before .before .before .before .list-length .ensures) (c .before .before .before .check .result) _ (c .improper .result) (c .before .before .before .check .ensures) (c .before .enum-told4 .given .1) (c .improper .ensures _ (c .before .enum-told4 .given .1)) in (r .answer, r .buffer)
+
+copy-list-requires : tie.Need-copy-list-requires
+copy-list-requires c κs = ((readable (c .before .before .before .before .before .before .before .before .before .before .before .before .before .before .before .before .before .args .signature .now) (c .before .before .before .before .before .before .before .before .before .before .before .before .before .before .before .before .before .args .image .now) _ (c .before .before .before .before .before .before .before .before .before .before .before .found .given .0 .1 .0) (c .before .before .before .before .before .before .before .before .before .image-length .result) (sym (c .before .before .before .before .before .before .before .before .before .before .before .found .given .1) ∙ c .before .before .before .before .before .before .before .before .before .before .before .before .before .measure-signature .ensures) (c .before .before .before .before .before .before .before .before .before .image-length .ensures) (c .before .before .before .before .before .before .before .before .if1 .left)), read-room (c .before .before .before .before .before .before .before .before .before .before .before .before .before .before .before .before .before .args .signature .now) (c .before .before .before .before .before .before .before .before .before .before .before .before .before .before .before .before .before .args .image .now) (c .before .before .before .before .before .before .before .before .before .before .before .before .before .before .before .before .before .args .out .now) (readable (c .before .before .before .before .before .before .before .before .before .before .before .before .before .before .before .before .before .args .signature .now) (c .before .before .before .before .before .before .before .before .before .before .before .before .before .before .before .before .before .args .image .now) _ (c .before .before .before .before .before .before .before .before .before .before .before .found .given .0 .1 .0) (c .before .before .before .before .before .before .before .before .before .image-length .result) (sym (c .before .before .before .before .before .before .before .before .before .before .before .found .given .1) ∙ c .before .before .before .before .before .before .before .before .before .before .before .before .before .measure-signature .ensures) (c .before .before .before .before .before .before .before .before .before .image-length .ensures) (c .before .before .before .before .before .before .before .before .if1 .left)) (c .before .before .before .before .before .room .given .0 .0) (sym (c .before .before .before .before .before .room .given .1) ∙ c .before .before .before .before .before .before .before .list-length .ensures))
+
+reply-requires-3 : tie.Need-reply-requires-3
+reply-requires-3 c κs = search needs
+
+same-length : tie.Need-same-length
+same-length c = search needs
+
+returns-5 : tie.Need-returns-5
+returns-5 c = let r = read-done (c .before .before .before .before .before .before .before .before .before .before .before .before .before .before .before .before .before .before .before .before .before .args .signature .now) (c .before .before .before .before .before .before .before .before .before .before .before .before .before .before .before .before .before .before .before .before .before .args .image .now) (c .before .before .before .before .before .before .before .before .before .before .before .before .before .before .before .before .before .before .before .before .before .args .out .now) (readable (c .before .before .before .before .before .before .before .before .before .before .before .before .before .before .before .before .before .before .before .before .before .args .signature .now) (c .before .before .before .before .before .before .before .before .before .before .before .before .before .before .before .before .before .before .before .before .before .args .image .now) _ (c .before .before .before .before .before .before .before .before .before .before .before .before .before .before .before .found .given .0 .1 .0) (c .before .before .before .before .before .before .before .before .before .before .before .before .before .image-length .result) (sym (c .before .before .before .before .before .before .before .before .before .before .before .before .before .before .before .found .given .1) ∙ c .before .before .before .before .before .before .before .before .before .before .before .before .before .before .before .before .before .measure-signature .ensures) (c .before .before .before .before .before .before .before .before .before .before .before .before .before .image-length .ensures) (c .before .before .before .before .before .before .before .before .before .before .before .before .if1 .left)) (c .before .before .before .before .before .before .before .before .before .room .given .0 .0) (sym (c .before .before .before .before .before .before .before .before .before .room .given .1) ∙ c .before .before .before .before .before .before .before .before .before .before .before .list-length .ensures) (c .before .before .before .before .before .before .before .check .result) _ (c .before .before .before .before .before .before .before .check .ensures) (c .before .before .before .before .before .enum-told3 .given .1) (c .before .before .before .copy-list .ensures) in (c .reply3 .ensures ∙ r .answer, r .buffer)
+
+pub read-spec : {M : Type 1} → statement M
+read-spec =
+    tie.close
+    (tie.spec
+    measure-signature-requires
+    enum-known-found
+    enum-told
+    refused-requires
+    returns
+    image-length-requires
+    reply-requires
+    returns-2
+    list-length-requires
+    enum-known-room
+    enum-told-2
+    reply-requires-2
+    returns-3
+    check-requires
+    enum-told-3
+    enum-told-4
+    improper-requires
+    returns-4
+    copy-list-requires
+    reply-requires-3
+    same-length
+    returns-5)

@@ -1,0 +1,79 @@
+-- What an image holds at bytes that lie together is a part of it. The body in a part is its end, and a part that promotion adds
+-- nothing to is proper.
+-- Assumes nothing.
+use mathlib.Core.Path.{_≡_, refl, sym, ap, ap₂, _∙_}
+use mathlib.Core.List.{List, _++_, map}
+use mathlib.Core.Bool.{Bool, true, false}
+use Prim.Native.Nat.{ℕ, zero, suc, _+_, _-_, _%_, _≤_}
+use native.Mathlib.Omega.{arith}
+use native.Mathlib.Nat.{sub-add-cancel}
+use lib.Dec.{ltb}
+use lib.Ieee.Bits.{is-true}
+use lib.ListN.{length, take, drop, length-drop}
+use lib.Seq.{length-take-le, drop-cons, drop-at, drop-drop, take-add}
+use borrow.Author.Tests.{ltb-true, ltb-false}
+use Rattle.words.specs.Words.{zeros, body, same, proper}
+use Rattle.words.proofs.Bytes.{same-refl}
+use Rattle.carried.specs.Image.{gather, put}
+use Rattle.carried.proofs.Places.{gather-append, put-append}
+use Rattle.o32.specs.O32.{run, carrier}
+use Rattle.placement.proofs.Laws.{length-run}
+use Rattle.block.proofs.Stores.{run-add}
+use Rattle.block.proofs.Spans.{span-low, span-high, span-split}
+
+-- ---- read at bytes that lie together
+
+module _ (img : List ℕ) where
+  pub gather-run : (n p : ℕ) → p + n ≤ length img → gather img (run p n) ≡ take n (drop p img)
+  gather-run zero p h = refl
+  gather-run (suc n) p h = rw (gather-run n (suc p) (omega arith), drop-cons img p 0 (omega arith))
+
+  -- n bytes from offset o on, which all lie in the register words, or all in the area
+  pub gather-low : (n o : ℕ) → o + n ≤ 16 → o + n ≤ length img → gather img (map carrier (run o n)) ≡ take n (drop o img)
+  gather-low n o h l = rw (span-low n o h) (gather-run n o l)
+
+  pub gather-high : (n o : ℕ) → 16 ≤ o → 32 + (o + n) ≤ length img → gather img (map carrier (run o n)) ≡ take n (drop (32 + o) img)
+  gather-high n o h l = rw (span-high n o h) (gather-run n (32 + o) (omega arith))
+
+  -- a word always lies in one of them
+  pub gather-word : (o : ℕ) → o % 4 ≡ 0 → 36 + o ≤ length img → gather img (map carrier (run o 4)) ≡ take 4 (drop (carrier o) img)
+  gather-word o a l = go (ltb o 16) refl
+    where
+      go : (t : Bool) → ltb o 16 ≡ t → gather img (map carrier (run o 4)) ≡ take 4 (drop (carrier o) img)
+      go true e = gather-low 4 o (omega (arith, ltb-true o 16 e)) (omega arith) ∙ rw e
+      go false e = gather-high 4 o (ltb-false o 16 e) (omega arith) ∙ rw e
+
+-- n bytes that lie in both, read and stored one part behind the other
+pub stored-split : (img out out′ out″ : List ℕ) (n o to : ℕ) → o ≤ 16 → 16 ≤ o + n → 32 + (o + n) ≤ length img
+    → out′ ≡ put out (run to (16 - o)) (take (16 - o) (drop o img))
+    → out″ ≡ put out′ (run (to + (16 - o)) (n - (16 - o))) (take (n - (16 - o)) (drop 48 img))
+    → out″ ≡ put out (run to n) (gather img (map carrier (run o n)))
+stored-split img out out′ out″ n o to h g l d e =
+    let m = 16 - o in
+    let low = take m (drop o img) in
+    let high = take (n - m) (drop 48 img) in
+    let count : m + (n - m) ≡ n = omega arith in
+    let long : length low ≡ length (run to m) = length-take-le m (drop o img) (rw length-drop (omega arith)) ∙ sym (length-run m to) in
+    let read : gather img (map carrier (run o n)) ≡ low ++ high =
+    rw (span-split n o h g, gather-append, gather-run img m o (omega arith), gather-run img (n - m) 48 (omega arith)) in
+    e ∙ ap (λ (x : List ℕ). put x (run (to + m) (n - m)) high) d
+    ∙ sym (put-append out (run to m) (run (to + m) (n - m)) low high long)
+    ∙ ap₂ (λ (ps vs : List ℕ). put out ps vs) (sym (run-add m (n - m) to) ∙ ap (run to) count) (sym read)
+
+-- ---- the body in bytes, and whether they are proper
+
+pub body-whole : (n : ℕ) (bs : List ℕ) → length bs ≡ n → body n bs ≡ bs
+body-whole n bs e = let z : length bs - n ≡ 0 = omega arith in rw z
+
+pub body-part : (img : List ℕ) (n size p : ℕ) → size ≤ n → p + n ≤ length img → body size (take n (drop p img)) ≡ take size (drop (p + (n - size)) img)
+body-part img n size p h l =
+    let part = drop p img in
+    let long : length part ≡ length img - p = length-drop p img in
+    let all : length (take n part) ≡ n = length-take-le n part (omega arith) in
+    let ends : take n part ≡ take (n - size) part ++ take size (drop (n - size) part) =
+    ap (λ (k : ℕ). take k part) (sym (sub-add-cancel h)) ∙ take-add (n - size) size part in
+    let first : length (take (n - size) part) ≡ n - size = length-take-le (n - size) part (omega arith) in
+    rw (all, ends, drop-at (take (n - size) part) (take size (drop (n - size) part)) (n - size) first, drop-drop)
+
+pub proper-whole : (n : ℕ) (bs : List ℕ) → length bs ≡ n → proper (zeros 0) n bs ≡ true
+proper-whole n bs e = rw (body-whole n bs e) (is-true (same bs bs) (same-refl bs))

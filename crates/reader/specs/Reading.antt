@@ -1,0 +1,47 @@
+-- What the passes of the reader find.
+use mathlib.Core.Path.{_≡_}
+use mathlib.Core.List.{List, [], _∷_}
+use mathlib.Core.Bool.{Bool, false, cond}
+use Prim.Native.Nat.{ℕ, suc, _+_}
+use lib.ListN.{length}
+use lib.Dec.{ltb}
+use Rattle.words.specs.Words.{proper}
+use Rattle.carried.specs.Image.{gather, Placed, reading}
+use Rattle.carried.specs.Convention.{Plan, bad, good, plan}
+use Rattle.o32.specs.declared.State.{State}
+use Rattle.o32.specs.Kinds.{kindOf}
+use Rattle.o32.specs.O32.{O32, area}
+use Rattle.reader.specs.declared.Room.{Room}
+use Rattle.reader.specs.declared.Room.the-variants as R
+use Rattle.reader.specs.declared.Checked.{Checked}
+use Rattle.reader.specs.declared.Checked.the-variants as K
+
+-- The length of a list with this signature: a kind byte and a body for each record.
+abbrev pub listLength : List ℕ → ℕ
+listLength [] = 0
+listLength (k ∷ ks) = suc (kindOf k .size + listLength ks)
+
+-- Whether it fits a buffer of so many bytes.
+abbrev pub roomFor : ℕ → ℕ → Room
+roomFor room n = cond (ltb room n) R.Short (R.Enough n)
+
+-- The first record whose bytes are no proper promotion, counted from here.
+abbrev pub firstImproper : ℕ → List Placed → List ℕ → Checked
+firstImproper at [] img = K.Proper
+firstImproper at (s ∷ L) img = cond (proper (s .extension) (s .size) (gather img (s .carriers))) (firstImproper (suc at) L img) (K.Improper at)
+
+-- The same of a whole plan, and its reading.
+abbrev pub improperIn : Plan State → List ℕ → Checked
+improperIn (bad r at) img = K.Proper
+improperIn (good L st) img = firstImproper 0 L img
+
+abbrev pub readingIn : Plan State → List ℕ → List ℕ
+readingIn (bad r at) img = []
+readingIn (good L st) img = reading L img
+
+-- An accepted signature whose images are as long as this one.
+pub record Readable (sig img : List ℕ) : Type 0 where
+  pub placed : List Placed
+  pub last : State
+  pub planned : plan O32 false sig ≡ good placed last
+  pub whole : length img ≡ 32 + area (last .end)
