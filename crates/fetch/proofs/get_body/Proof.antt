@@ -41,7 +41,7 @@ add-copy c =
 copy-requires-2 : tie.Need-copy-requires-2
 copy-requires-2 c κs =
     let s = c .before .before .before .before .before .before .before .before in
-    (s .pre .1, word-end (s .args .place) (now (s .args .image)) (s .pre .0) _ _ (c .position .ensures) (c .before .before .before .width-of .ensures) (c .before .before .if2 .taken))
+    (s .pre .1, omega (arith, word-end (s .args .place) (now (s .args .image)) (s .pre .0) _ _ (c .position .ensures) (c .before .before .before .width-of .ensures) (c .before .before .if2 .taken)))
 
 same-length-2 : tie.Need-same-length-2
 same-length-2 c = search needs
