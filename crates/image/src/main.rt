@@ -1,0 +1,30 @@
+// Reads an argument list from standard input, at most 2,048 bytes, and prints its call image or its refusal.
+use libc::STDIN_FILENO;
+use libc::STDOUT_FILENO;
+
+// Each word of an image, which has at most 264 of them, as a line of 9 bytes.
+fn print_image(image: &[u8]) {
+    let mut out = [0u8; 2376];
+    let n = text::image_text(image, &mut out);
+    io::write_all(STDOUT_FILENO, &out[..n]);
+}
+
+// A refusal as a line: 13 bytes and the digits of two numbers.
+fn print_refusal(number: u32, place: usize) {
+    let mut out = [0u8; 43];
+    let n = text::refusal_text(number, place, &mut out);
+    io::write_all(STDOUT_FILENO, &out[..n]);
+}
+
+fn main() {
+    let mut list = [0u8; 2048];
+    let n = io::read_full(STDIN_FILENO, &mut list);
+    let mut image = [0u8; 1056];
+    let answer = call::write(&list[..n], &mut image);
+    if answer.refusal == 0 {
+        let length = answer.length;
+        print_image(&image[..length]);
+    } else {
+        print_refusal(answer.refusal, answer.place);
+    }
+}

@@ -1,0 +1,55 @@
+-- The fewest digits that hold a number are its decimal.
+-- Assumes nothing.
+use mathlib.Core.Path.{_≡_, refl, sym, ap, _∙_}
+use mathlib.Core.List.{List, [], _∷_, _++_}
+use Prim.Native.Nat.{ℕ, zero, suc, _+_, _-_, _*_, _/_, _%_, _^_, _≤_, _<_}
+use native.Mathlib.Omega.{arith}
+use native.Mathlib.Nat.{pow-suc, pow-le-pow-right, lt-of-not-le, le-of-suc-le-suc}
+use native.Mathlib.Numerals.{sub-one}
+use lib.ListN.{length, length-append}
+use borrow.Author.Tests.{lt-ltb, le-ltb}
+use Rattle.io.specs.Digits.{Fewest, glyph}
+use Rattle.io.specs.Digits as D
+use Rattle.text.specs.Text.{digits, decimal}
+
+-- A digit below ten is spelled from 48 on.
+spelled : (d : ℕ) → d < 10 → glyph d ≡ 48 + d
+spelled d h = simp (lt-ltb d 10 h)
+
+-- The last step: one digit.
+one : (most n : ℕ) → n < 10 → D.digits 10 1 n ≡ digits (suc most) n
+one most n h =
+    let e : n % 10 ≡ n = omega arith in
+    simp (lt-ltb n 10 h, e)
+
+-- Any other step: the digits of the tenth, then the last digit.
+more : (k most n : ℕ) → 10 ≤ n → D.digits 10 k (n / 10) ≡ digits most (n / 10) → D.digits 10 (suc k) n ≡ digits (suc most) n
+more k most n h e =
+    let d : n % 10 < 10 = omega arith in
+    simp (le-ltb n 10 h, spelled (n % 10) d, e)
+
+fewest : (r most n : ℕ) → n < 10 ^ suc r → (0 < r → 10 ^ r ≤ n) → n < most → D.digits 10 (suc r) n ≡ digits most n
+fewest zero (suc most) n above below h = one most n above
+fewest (suc r) (suc most) n above below h =
+    let a : n < 10 ^ suc r * 10 = rw pow-suc at above in
+    let b : 10 ^ r * 10 ≤ n = rw pow-suc at (below (omega arith)) in
+    let p : 1 ≤ 10 ^ r = pow-le-pow-right {n = 10} (omega arith) {i = 0} {j = r} (omega arith) in
+    more (suc r) most n (omega arith)
+    (fewest r most (n / 10) (omega arith) (λ _. omega arith) (omega arith))
+
+pub decimal-is : (n k : ℕ) → Fewest 10 1 n k → D.digits 10 k n ≡ decimal n
+unfolding decimal
+decimal-is n zero h = absurd (omega arith)
+decimal-is n (suc r) h = fewest r (suc n) n (h .1) (λ p. rw sub-one at (h .2 (omega arith))) (omega arith)
+
+-- There are as many digits as were asked for.
+pub digits-length : (k n : ℕ) → length (D.digits 10 k n) ≡ k
+digits-length zero n = refl
+digits-length (suc k) n = omega (arith, length-append (D.digits 10 k (n / 10)) (glyph (n % 10) ∷ []), digits-length k (n / 10))
+
+-- A number of 64 bits has at most 20 digits: 21 digits start at 10 ^ 20.
+pub twenty : (n k : ℕ) → n < 2 ^ 64 → Fewest 10 1 n k → k ≤ 20
+twenty n k h f = le-of-suc-le-suc (lt-of-not-le (λ p.
+    let big : 10 ^ 20 ≤ 10 ^ (k - 1) = pow-le-pow-right {n = 10} (omega arith) {i = 20} {j = k - 1} (omega arith) in
+    let low : 10 ^ (k - 1) ≤ n = f .2 (omega arith) in
+    omega arith))
