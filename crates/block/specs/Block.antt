@@ -11,7 +11,7 @@ use Rattle.o32.specs.declared.Placement.{Placement}
 use Rattle.o32.specs.Kinds.{is}
 use Rattle.o32.specs.Offsets.{width}
 
--- "Eight register words, .. big-endian."
+-- "eight register words .., big-endian, 32 bytes".
 abbrev pub blockBytes : List ℕ → List ℕ
 blockBytes [] = []
 blockBytes (w ∷ ws) = bytesOf 4 w ++ blockBytes ws

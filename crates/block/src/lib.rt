@@ -24,7 +24,7 @@ pub fn word_at(src: &[u8], at: usize) -> u32
 }
 
 // The word that the byte (size 1) or halfword (size 2) at a place becomes.
-pub fn promoted_at(src: &[u8], at: usize, size: usize, signed: bool) -> u32
+fn promoted_at(src: &[u8], at: usize, size: usize, signed: bool) -> u32
     requires { ⌜ (1 ≤ size) × (size ≤ 2) ⌝ }
     requires { ⌜ at + size ≤ length (now src) ⌝ }
     ensures { λ r. ⌜ bytesOf 4 r ≡ promote (toWord signed size) (take size (drop at (now (src .entry)))) ⌝ }

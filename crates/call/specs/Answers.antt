@@ -15,7 +15,7 @@ abbrev pub within : ℕ → C.Answer → C.Answer
 within room (C.refused r at) = C.refused r at
 within room (C.done x) = cond (ltb room (length x)) (C.refused 7 0) (C.done x)
 
--- "A refusal returns its number, its place, length 0"; "success returns 0, place 0 and the exact length".
+-- "A refusal returns its number, its place .., length 0"; "Success returns 0, place 0 and the exact length."
 abbrev pub answerOf : C.Answer → Answer
 answerOf (C.refused r at) = record { refusal = r; place = at; length = 0 }
 answerOf (C.done x) = record { refusal = 0; place = 0; length = length x }

@@ -1,4 +1,4 @@
-// The O32 convention: the data that its definitions in specs/ speak of. The theorems are in proofs/; there is no code here.
+// The O32 convention: the data that its definitions in specs/ speak of. There is no code here.
 
 // The classes of kinds, by how they are treated.
 pub enum Class {

@@ -87,13 +87,13 @@ first {st} (one {st′ = st′} {k = k} {p = p} {L = L} e f w) = record {
 then : {st : State} {k : ℕ} {ks : List ℕ} {L : List Placed} {last : State} (w : First st k ks L last) → Walk O32 O32-laws (onward st (kindOf k)) ks (w .rest) last
 then {ks = ks} {last = last} w = subst (λ (x : State). Walk O32 O32-laws x ks (w .rest) last) (w .stepped-so .on) (w .walk)
 
--- the record of this kind has the bytes of its placement in the state behind the kinds before
+-- the record of this kind is placed by the state behind the kinds before
 placed-so : (before : List ℕ) (st : State) (k : ℕ) (behind : List ℕ) (L : List Placed) (last : State) → Walk O32 O32-laws st (before ++ (k ∷ behind)) L last
-    → (M : List Placed) (s : Placed) (N : List Placed) → L ≡ M ++ (s ∷ N) → length M ≡ length before → s .carriers ≡ carriers (placement (reach st before) (kindOf k))
+    → (M : List Placed) (s : Placed) (N : List Placed) → L ≡ M ++ (s ∷ N) → length M ≡ length before → s ≡ O32 .placedAt k (placement (reach st before) (kindOf k))
 placed-so [] st k behind L last w [] s N e h =
     let a : First st k behind L last = first w in
     let i : s ≡ O32 .placedAt k (a .place) = cc (a .records) in
-    ap (λ (x : Placed). x .carriers) i ∙ ap carriers (a .stepped-so .at)
+    i ∙ ap (O32 .placedAt k) (a .stepped-so .at)
 placed-so [] st k behind L last w (m ∷ M) s N e h = absurd (omega arith)
 placed-so (j ∷ before) st k behind L last w [] s N e h = absurd (omega arith)
 placed-so (j ∷ before) st k behind L last w (m ∷ M) s N e h =
@@ -188,8 +188,14 @@ float-width k e = rw (eqb-true (classNumber (k .class)) 5 e)
 
 -- ---- the law
 
-module _ (before : List ℕ) (k : ℕ) (cs : List ℕ)
-    (so : cs ≡ carriers (record { kind = kindOf k; offset = offset (kindOf k) (endOf 0 before); register = registerBehind before k })) where
+module _ (before : List ℕ) (k : ℕ) (s : Placed)
+    (is-so : s ≡ O32 .placedAt k (record { kind = kindOf k; offset = offset (kindOf k) (endOf 0 before); register = registerBehind before k })) where
+  abbrev cs : List ℕ
+  cs = s .carriers
+
+  so : cs ≡ carriers (record { kind = kindOf k; offset = offset (kindOf k) (endOf 0 before); register = registerBehind before k })
+  so = ap (λ (x : Placed). x .carriers) is-so
+
   by-offset : registerBehind before k ≡ 0 → cs ≡ map carrier (run (offset (kindOf k) (endOf 0 before)) (width (kindOf k)))
   by-offset z = so ∙ rw z
 
@@ -206,8 +212,10 @@ module _ (before : List ℕ) (k : ℕ) (cs : List ℕ)
   at-byte z o i e h =
       ap (λ (x : List ℕ). getD x i 0) (by-offset z) ∙ getD-span (width (kindOf k)) (offset (kindOf k) (endOf 0 before)) i (omega (arith, carried-long 0 z)) ∙ rw e
 
-  law : CarriedAt before k cs
+  law : CarriedAt before k s
   law = record {
+    size = ap (λ (x : Placed). x .size) is-so;
+    promotion = ap (λ (x : Placed). x .extension) is-so;
     long = carried-long (registerBehind before k) refl;
     low = λ z o i e h l. at-byte z o i e h ∙ carrier-low (o + i) l;
     high = λ z o i e h l. at-byte z o i e h ∙ carrier-high (o + i) l;
@@ -219,9 +227,9 @@ module _ (before : List ℕ) (k : ℕ) (cs : List ℕ)
 
 -- At every accepted signature, the record of every kind byte is carried so.
 pub carried-at : (before : List ℕ) (k : ℕ) (behind : List ℕ) (L : List Placed) (last : State) → plan O32 false (before ++ (k ∷ behind)) ≡ good L last
-    → (M : List Placed) (s : Placed) (N : List Placed) → L ≡ M ++ (s ∷ N) → length M ≡ length before → CarriedAt before k (s .carriers)
+    → (M : List Placed) (s : Placed) (N : List Placed) → L ≡ M ++ (s ∷ N) → length M ≡ length before → CarriedAt before k s
 carried-at before k behind L last ok M s N e h =
     let w : Walk O32 O32-laws (O32 .start) (before ++ (k ∷ behind)) L last = walk-of O32 O32-laws (before ++ (k ∷ behind)) (O32 .start) L last 0 ok in
-    law before k (s .carriers)
+    law before k s
     (placed-so before (O32 .start) k behind L last w M s N e h
     ∙ rw (reach-end before (O32 .start), register-so before k behind L last w))

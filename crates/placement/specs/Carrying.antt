@@ -4,9 +4,10 @@ use mathlib.Core.List.{List, [], _∷_}
 use mathlib.Core.Bool.{cond, _&&_}
 use Prim.Native.Nat.{ℕ, _+_, _-_, _*_, _≤_, _<_}
 use lib.ListN.{length, getD}
+use Rattle.carried.specs.Image.{Placed}
 use Rattle.o32.specs.declared.Class.the-variants.{Marker, Float}
 use Rattle.o32.specs.Kinds.{kindOf, is}
-use Rattle.o32.specs.Offsets.{width, offset, ending}
+use Rattle.o32.specs.Offsets.{extension, width, offset, ending}
 
 -- Rule 2. Where the arguments of these kinds end, the first laid from this end on. A marker is no argument.
 abbrev pub endOf : ℕ → List ℕ → ℕ
@@ -22,12 +23,14 @@ registerBehind (j ∷ i ∷ js) k = 0
 
 -- "Byte i (from 0) of an argument at offset o is carried by image byte o + i where o + i is below 16, else by image byte
 -- 32 + o + i. An argument of rule 3 has instead the bytes of the register words which that rule names, in its order."
-pub record CarriedAt (before : List ℕ) (k : ℕ) (carriers : List ℕ) : Type 0 where
-  pub long : length carriers ≡ width (kindOf k)
-  pub low : registerBehind before k ≡ 0 → (o i : ℕ) → o ≡ offset (kindOf k) (endOf 0 before) → i < length carriers → o + i < 16
-      → getD carriers i 0 ≡ o + i
-  pub high : registerBehind before k ≡ 0 → (o i : ℕ) → o ≡ offset (kindOf k) (endOf 0 before) → i < length carriers → 16 ≤ o + i
-      → getD carriers i 0 ≡ 32 + (o + i)
-  pub even : (f : ℕ) → registerBehind before k ≡ f → 1 ≤ f → (i : ℕ) → i < 4 → getD carriers i 0 ≡ 16 + 4 * (f - 12) + i
-  pub odd : (f : ℕ) → registerBehind before k ≡ f → 1 ≤ f → (i : ℕ) → i < 4 → 4 + i < length carriers
-      → getD carriers (4 + i) 0 ≡ 16 + 4 * (f + 1 - 12) + i
+pub record CarriedAt (before : List ℕ) (k : ℕ) (s : Placed) : Type 0 where
+  pub size : s .size ≡ kindOf k .size
+  pub promotion : s .extension ≡ extension (kindOf k)
+  pub long : length (s .carriers) ≡ width (kindOf k)
+  pub low : registerBehind before k ≡ 0 → (o i : ℕ) → o ≡ offset (kindOf k) (endOf 0 before) → i < length (s .carriers) → o + i < 16
+      → getD (s .carriers) i 0 ≡ o + i
+  pub high : registerBehind before k ≡ 0 → (o i : ℕ) → o ≡ offset (kindOf k) (endOf 0 before) → i < length (s .carriers) → 16 ≤ o + i
+      → getD (s .carriers) i 0 ≡ 32 + (o + i)
+  pub even : (f : ℕ) → registerBehind before k ≡ f → 1 ≤ f → (i : ℕ) → i < 4 → getD (s .carriers) i 0 ≡ 16 + 4 * (f - 12) + i
+  pub odd : (f : ℕ) → registerBehind before k ≡ f → 1 ≤ f → (i : ℕ) → i < 4 → 4 + i < length (s .carriers)
+      → getD (s .carriers) (4 + i) 0 ≡ 16 + 4 * (f + 1 - 12) + i

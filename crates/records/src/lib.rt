@@ -137,7 +137,7 @@ fn register_of(st: State, kind: Kind) -> usize
     if st.marked { 0 } else { 14 }
 }
 
-// Refusal 2: a marker that is second or has only a return pointer or nothing before it, a return pointer that is not first.
+// Refusal 2: a second marker, or one with nothing or only a return pointer before it; a return pointer that is not first.
 fn is_misplaced(st: State, kind: Kind) -> bool
     ensures { λ r. ⌜ r ≡ misplaced st kind ⌝ }
 {
@@ -226,7 +226,7 @@ pub fn start() -> State
 }
 
 // How many bytes stand behind a kind byte: in a list the body, in a signature none.
-pub fn body_behind(bodies: bool, size: usize) -> usize
+fn body_behind(bodies: bool, size: usize) -> usize
     ensures { λ r. ⌜ r ≡ behind bodies size ⌝ }
 {
     if bodies { size } else { 0 }
