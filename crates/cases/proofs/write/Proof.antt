@@ -1,0 +1,86 @@
+use mathlib.Core.Path.{_≡_, sym, _∙_}
+use Prim.Native.Nat.{_+_, _-_, _*_, _/_, _≤_, _<_}
+use native.Mathlib.Omega.{arith}
+use lib.ListN.{length}
+use lib.Seq.{length-take-le, length-front}
+use borrow.Author.Needs.{needs}
+use Rattle.cases.proofs.write.Statement.{statement}
+use Rattle.cases.proofs.write.Tie as tie
+use Rattle.cases.proofs.write.Reads as reads
+use Rattle.cases.proofs.write.Lts as lts
+use Rattle.call.proofs.write.Reads as write-reads
+use Rattle.cases.proofs.bytes.Reads as bytes-reads
+use Rattle.cases.proofs.canaries.Reads as canaries-reads
+use Rattle.cases.proofs.malformed.Reads as malformed-reads
+use Rattle.cases.proofs.show.Reads as show-reads
+use Rattle.io.proofs.buffer.Reads as buffer-reads
+
+buffer-requires : tie.Need-buffer-requires
+buffer-requires c κs = tt
+
+slice-aggregate-bytes : tie.Need-slice-aggregate-bytes
+slice-aggregate-bytes c = omega arith
+
+bytes-requires : tie.Need-bytes-requires
+bytes-requires c κs = omega arith
+
+malformed-requires : tie.Need-malformed-requires
+malformed-requires c κs = tt
+
+returns : tie.Need-returns
+returns c = tt
+
+malformed-requires-2 : tie.Need-malformed-requires-2
+malformed-requires-2 c κs = tt
+
+returns-2 : tie.Need-returns-2
+returns-2 c = tt
+
+canaries-requires : tie.Need-canaries-requires
+canaries-requires c κs = tt
+
+array-share-prefix-list : tie.Need-array-share-prefix-list
+array-share-prefix-list c = omega arith
+
+slice-aggregate-write : tie.Need-slice-aggregate-write
+slice-aggregate-write c = sym (length-take-le _ _ (omega arith))
+
+array-borrow-prefix-out : tie.Need-array-borrow-prefix-out
+array-borrow-prefix-out c = omega arith
+
+slice-aggregate-write-2 : tie.Need-slice-aggregate-write-2
+slice-aggregate-write-2 c = sym (length-take-le _ _ (omega arith))
+
+write-requires : tie.Need-write-requires
+write-requires c κs = tt
+
+slice-aggregate-show : tie.Need-slice-aggregate-show
+slice-aggregate-show c =
+    c .before .before .before .before .before .canaries .ensures ∙ sym (length-front (c .before .before .before .before .before .canaries .result) (c .before .before .write .last .1 .0) (c .before .before .before .before .before .before .before .before .before .before .before .before .before .args .room) (c .before .before .write .kept .1 .0))
+
+show-requires : tie.Need-show-requires
+show-requires c κs = tt
+
+returns-3 : tie.Need-returns-3
+returns-3 c = tt
+
+pub write-spec : {M : Type 1} → statement M
+write-spec =
+    tie.close
+    (tie.spec
+    buffer-requires
+    slice-aggregate-bytes
+    bytes-requires
+    malformed-requires
+    returns
+    malformed-requires-2
+    returns-2
+    canaries-requires
+    array-share-prefix-list
+    slice-aggregate-write
+    array-borrow-prefix-out
+    slice-aggregate-write-2
+    write-requires
+    slice-aggregate-show
+    show-requires
+    returns-3)
