@@ -100,7 +100,7 @@ pub fn write(list: &[u8], out: &mut [u8]) -> Answer
     };
     let n = image_length(end);
     if out.len() < n {
-        return reply(7, 0, 0);
+        return reply(7, 0, 0); // the image does not fit
     }
     clear(out, n);
     let block = fill(list, out, n);
