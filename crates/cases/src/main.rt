@@ -5,8 +5,9 @@
 //     write ROOM, LIST                the image of a list, in a buffer of ROOM bytes
 //     read ROOM, SIGNATURE, IMAGE     the list of an image under a signature, in a buffer of ROOM bytes
 //
-// ROOM is a decimal number, at most 2,048. LIST, SIGNATURE and IMAGE are at most 4,096 bytes, each a pair of hex digits, with
-// spaces between them or none. Behind a pair, *N makes N equal bytes of it, and +N makes N bytes that count up from it.
+// ROOM is a decimal number, at most 4,096. LIST, SIGNATURE and IMAGE are at most 4,096 bytes, each a pair of hex digits, with
+// spaces between them or none. Behind a pair, *N makes N equal bytes of it, and +N makes N bytes that count up from it. Of the
+// words write and read the first letter decides. A line that has another form is answered "malformed".
 //
 // The answer is the refusal, or the bytes that were written, 16 to a line; then their number, and whether every other byte of
 // the buffer is kept.
@@ -185,39 +186,19 @@ fn print_refusal(number: u32, place: usize) {
     print(&out[..n]);
 }
 
-// A digit below 16 as a character; a space where it is none.
-fn hex(d: u8) -> u8 {
-    match d {
-        0..=9 => 48 + d,
-        10..=15 => 55 + d,
-        _ => b' ',
-    }
-}
-
-// What stands before the byte with a number: 16 bytes make a line, and 4 a word.
-fn print_gap(i: usize) {
-    if i == 0 {
-        return print(b"  ");
-    }
-    if i % 16 == 0 {
-        return print(b"\n  ");
-    }
-    if i % 4 == 0 {
-        return print(b" ");
-    }
-}
-
 // Bytes, as lines of four words: of an image $4 to $7, then $f12 to $f15, then the area.
 fn print_bytes(bytes: &[u8]) {
     let mut i = 0;
     while i < bytes.len() {
-        print_gap(i);
+        if i % 4 == 0 {
+            print(b" ");
+        }
         let byte = bytes[i];
-        print(&[hex(byte / 16), hex(byte % 16)]);
+        print(&[text::high(byte), text::low(byte)]);
         i += 1;
-    }
-    if i > 0 {
-        print(b"\n");
+        if i % 16 == 0 || i == bytes.len() {
+            print(b"\n");
+        }
     }
 }
 
@@ -251,13 +232,6 @@ fn show(answer: Answer, out: &[u8]) {
     }
 }
 
-// A buffer before a case.
-fn canaries() -> [u8; 2048]
-    ensures { λ r. ⌜ 2048 ≡ length r ⌝ }
-{
-    [0xA5; 2048]
-}
-
 // The writer, of the list behind a place of a line.
 fn write(room: usize, line: &[u8], from: usize) {
     let mut list = io::buffer();
@@ -265,10 +239,11 @@ fn write(room: usize, line: &[u8], from: usize) {
     if n > 4096 {
         return malformed();
     }
-    if room > 2048 {
+    if room > 4096 {
         return malformed();
     }
-    let mut out = canaries();
+    let mut out = io::buffer();
+    put(&mut out, 0, 0xA5, 0, 4096);
     let answer = call::write(&list[..n], &mut out[..room]);
     show(answer, &out);
 }
@@ -291,10 +266,11 @@ fn read(room: usize, line: &[u8], from: usize)
     if m > 4096 {
         return malformed();
     }
-    if room > 2048 {
+    if room > 4096 {
         return malformed();
     }
-    let mut out = canaries();
+    let mut out = io::buffer();
+    put(&mut out, 0, 0xA5, 0, 4096);
     let answer = call::read(&signature[..n], &image[..m], &mut out[..room]);
     show(answer, &out);
 }

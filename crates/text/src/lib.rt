@@ -1,4 +1,4 @@
-// Text for standard output: the words of an image, and the line of a refusal.
+// Text for standard output: hex digits, the words of an image, and the line of a refusal.
 ghost use mathlib.Core.Path.{_≡_};
 ghost use Prim.Native.Nat.{_%_, _+_, _/_, _<_, _≤_};
 ghost use lib.ListN.{length};
@@ -14,14 +14,14 @@ fn hex_digit(d: u8) -> u8
 }
 
 // The higher hex digit of a byte.
-fn high(b: u8) -> u8
+pub fn high(b: u8) -> u8
     ensures { λ r. ⌜ r ≡ hexDigit (b / 16) ⌝ }
 {
     hex_digit(b / 16)
 }
 
 // The lower hex digit of a byte.
-fn low(b: u8) -> u8
+pub fn low(b: u8) -> u8
     ensures { λ r. ⌜ r ≡ hexDigit (b % 16) ⌝ }
 {
     hex_digit(b % 16)

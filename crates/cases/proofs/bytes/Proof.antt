@@ -1,14 +1,11 @@
+-- `bytes` is safe and ends: what it has stored lies within the buffer.
+-- Assumes nothing.
 use mathlib.Core.Path.{_≡_}
-use Prim.Native.Nat.{_+_, _-_, _*_, _/_, _≤_, _<_}
+use Prim.Native.Nat.{_-_, _≤_}
 use native.Mathlib.Omega.{arith}
 use lib.ListN.{length}
-use borrow.Author.Needs.{needs}
 use Rattle.cases.proofs.bytes.Statement.{statement}
 use Rattle.cases.proofs.bytes.Tie as tie
-use Rattle.cases.proofs.bytes.Reads as reads
-use Rattle.cases.proofs.bytes.Lts as lts
-use Rattle.cases.proofs.put.Reads as put-reads
-use Rattle.cases.proofs.series_at.Reads as series-at-reads
 
 abbrev Inv-loop : tie.InvT-loop
 Inv-loop line from to out₀ n₀ i₀ out n i = (n ≤ length out) × (length out ≡ length out₀)

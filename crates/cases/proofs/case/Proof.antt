@@ -1,9 +1,8 @@
+-- `case` is safe: each place lies within the line.
+-- Assumes nothing.
 use native.Mathlib.Omega.{arith}
-use borrow.Author.Needs.{needs}
 use Rattle.cases.proofs.case.Statement.{statement}
 use Rattle.cases.proofs.case.Tie as tie
-use Rattle.cases.proofs.case.Reads as reads
-use Rattle.cases.proofs.case.Lts as lts
 
 find-requires : tie.Need-find-requires
 find-requires c κs = omega arith

@@ -1,14 +1,10 @@
-use mathlib.Core.Path.{_≡_}
-use Prim.Native.Nat.{_+_, _-_, _*_, _/_, _≤_, _<_}
+-- `decimal` is safe and ends: the value stays below 10,000, and the place only grows.
+-- Assumes nothing.
+use Prim.Native.Nat.{_-_, _≤_}
 use native.Mathlib.Omega.{arith}
 use lib.ListN.{length}
-use borrow.Author.Needs.{needs}
 use Rattle.cases.proofs.decimal.Statement.{statement}
 use Rattle.cases.proofs.decimal.Tie as tie
-use Rattle.cases.proofs.decimal.Reads as reads
-use Rattle.cases.proofs.decimal.Lts as lts
-use Rattle.cases.proofs.digit.Reads as digit-reads
-use Rattle.cases.proofs.ends.Reads as ends-reads
 
 abbrev Inv-loop : tie.InvT-loop
 Inv-loop text from value₀ i₀ value i = (from ≤ i) × (i ≤ length text) × (value ≤ 9999)

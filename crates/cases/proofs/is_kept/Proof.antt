@@ -1,12 +1,10 @@
-use mathlib.Core.Path.{_≡_}
-use Prim.Native.Nat.{_+_, _-_, _*_, _/_, _≤_, _<_}
+-- `is_kept` is safe and ends.
+-- Assumes nothing.
+use Prim.Native.Nat.{_-_}
 use native.Mathlib.Omega.{arith}
 use lib.ListN.{length}
-use borrow.Author.Needs.{needs}
 use Rattle.cases.proofs.is_kept.Statement.{statement}
 use Rattle.cases.proofs.is_kept.Tie as tie
-use Rattle.cases.proofs.is_kept.Reads as reads
-use Rattle.cases.proofs.is_kept.Lts as lts
 
 abbrev Inv-loop : tie.InvT-loop
 Inv-loop out from i₀ i = Unit {0}

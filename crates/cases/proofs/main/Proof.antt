@@ -1,16 +1,9 @@
-use mathlib.Core.Path.{_≡_}
-use Prim.Native.Nat.{_+_, _-_, _*_, _/_, _≤_, _<_}
+-- `main` is safe and ends: each line starts behind the one before it.
+-- Assumes nothing.
+use Prim.Native.Nat.{_-_}
 use native.Mathlib.Omega.{arith}
-use lib.ListN.{length}
-use borrow.Author.Needs.{needs}
 use Rattle.cases.proofs.main.Statement.{statement}
 use Rattle.cases.proofs.main.Tie as tie
-use Rattle.cases.proofs.main.Reads as reads
-use Rattle.cases.proofs.main.Lts as lts
-use Rattle.cases.proofs.find.Reads as find-reads
-use Rattle.cases.proofs.run.Reads as run-reads
-use Rattle.io.proofs.large_buffer.Reads as large-buffer-reads
-use Rattle.io.proofs.read_full.Reads as read-full-reads
 
 abbrev Inv-loop : tie.InvT-loop
 Inv-loop text n at₀ at = Unit {0}

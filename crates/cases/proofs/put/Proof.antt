@@ -1,13 +1,12 @@
+-- `put` meets its contract: so far i bytes are stored.
+-- Assumes nothing.
 use mathlib.Core.Path.{_≡_}
-use Prim.Native.Nat.{_+_, _-_, _*_, _/_, _≤_, _<_}
+use Prim.Native.Nat.{_-_, _≤_}
 use native.Mathlib.Omega.{arith}
 use lib.ListN.{length}
 use borrow.Author.Needs.{needs}
 use Rattle.cases.proofs.put.Statement.{statement}
 use Rattle.cases.proofs.put.Tie as tie
-use Rattle.cases.proofs.put.Reads as reads
-use Rattle.cases.proofs.put.Lts as lts
-use Rattle.std.proofs.num.wrapping_add_u8.Reads as wrapping-add-u8-reads
 
 abbrev Inv-loop : tie.InvT-loop
 Inv-loop out₀ at first step count byte₀ i₀ out byte i = (i ≤ count) × (length out ≡ length out₀)

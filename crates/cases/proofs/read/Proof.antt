@@ -1,20 +1,10 @@
-use mathlib.Core.Path.{_≡_, sym, _∙_}
-use Prim.Native.Nat.{_+_, _-_, _*_, _/_, _≤_, _<_}
+-- `read` is safe: the parts that are lent lie within their buffers.
+-- Assumes nothing.
+use mathlib.Core.Path.{sym}
 use native.Mathlib.Omega.{arith}
-use lib.ListN.{length}
 use lib.Seq.{length-take-le, length-front}
-use borrow.Author.Needs.{needs}
 use Rattle.cases.proofs.read.Statement.{statement}
 use Rattle.cases.proofs.read.Tie as tie
-use Rattle.cases.proofs.read.Reads as reads
-use Rattle.cases.proofs.read.Lts as lts
-use Rattle.call.proofs.read.Reads as read-reads
-use Rattle.cases.proofs.bytes.Reads as bytes-reads
-use Rattle.cases.proofs.canaries.Reads as canaries-reads
-use Rattle.cases.proofs.find.Reads as find-reads
-use Rattle.cases.proofs.malformed.Reads as malformed-reads
-use Rattle.cases.proofs.show.Reads as show-reads
-use Rattle.io.proofs.buffer.Reads as buffer-reads
 
 find-requires : tie.Need-find-requires
 find-requires c κs = omega arith
@@ -64,8 +54,14 @@ malformed-requires-4 c κs = tt
 returns-4 : tie.Need-returns-4
 returns-4 c = tt
 
-canaries-requires : tie.Need-canaries-requires
-canaries-requires c κs = tt
+buffer-requires-3 : tie.Need-buffer-requires-3
+buffer-requires-3 c κs = tt
+
+slice-aggregate-put : tie.Need-slice-aggregate-put
+slice-aggregate-put c = omega arith
+
+put-requires : tie.Need-put-requires
+put-requires c κs = omega arith
 
 array-share-prefix-signature : tie.Need-array-share-prefix-signature
 array-share-prefix-signature c = omega arith
@@ -90,7 +86,7 @@ read-requires c κs = tt
 
 slice-aggregate-show : tie.Need-slice-aggregate-show
 slice-aggregate-show c =
-    c .before .before .before .before .before .before .canaries .ensures ∙ sym (length-front (c .before .before .before .before .before .before .canaries .result) (c .before .before .read .last .1 .1 .0) (c .before .before .before .before .before .before .before .before .before .before .before .before .before .before .before .before .before .before .before .before .before .args .room) (c .before .before .read .kept .1 .1 .0))
+    omega (arith, c .before .before .before .before .before .before .before .put .kept .0, length-front (c .before .before .before .before .before .before .before .put .last .0) (c .before .before .read .last .1 .1 .0) (c .before .before .before .before .before .before .before .before .before .before .before .before .before .before .before .before .before .before .before .before .before .before .before .before .args .room) (c .before .before .read .kept .1 .1 .0))
 
 show-requires : tie.Need-show-requires
 show-requires c κs = tt
@@ -118,7 +114,9 @@ read-spec =
     returns-3
     malformed-requires-4
     returns-4
-    canaries-requires
+    buffer-requires-3
+    slice-aggregate-put
+    put-requires
     array-share-prefix-signature
     slice-aggregate-read
     array-share-prefix-image

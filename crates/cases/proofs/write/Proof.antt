@@ -1,19 +1,10 @@
-use mathlib.Core.Path.{_≡_, sym, _∙_}
-use Prim.Native.Nat.{_+_, _-_, _*_, _/_, _≤_, _<_}
+-- `write` is safe: the parts that are lent lie within their buffers.
+-- Assumes nothing.
+use mathlib.Core.Path.{sym}
 use native.Mathlib.Omega.{arith}
-use lib.ListN.{length}
 use lib.Seq.{length-take-le, length-front}
-use borrow.Author.Needs.{needs}
 use Rattle.cases.proofs.write.Statement.{statement}
 use Rattle.cases.proofs.write.Tie as tie
-use Rattle.cases.proofs.write.Reads as reads
-use Rattle.cases.proofs.write.Lts as lts
-use Rattle.call.proofs.write.Reads as write-reads
-use Rattle.cases.proofs.bytes.Reads as bytes-reads
-use Rattle.cases.proofs.canaries.Reads as canaries-reads
-use Rattle.cases.proofs.malformed.Reads as malformed-reads
-use Rattle.cases.proofs.show.Reads as show-reads
-use Rattle.io.proofs.buffer.Reads as buffer-reads
 
 buffer-requires : tie.Need-buffer-requires
 buffer-requires c κs = tt
@@ -36,8 +27,14 @@ malformed-requires-2 c κs = tt
 returns-2 : tie.Need-returns-2
 returns-2 c = tt
 
-canaries-requires : tie.Need-canaries-requires
-canaries-requires c κs = tt
+buffer-requires-2 : tie.Need-buffer-requires-2
+buffer-requires-2 c κs = tt
+
+slice-aggregate-put : tie.Need-slice-aggregate-put
+slice-aggregate-put c = omega arith
+
+put-requires : tie.Need-put-requires
+put-requires c κs = omega arith
 
 array-share-prefix-list : tie.Need-array-share-prefix-list
 array-share-prefix-list c = omega arith
@@ -56,7 +53,7 @@ write-requires c κs = tt
 
 slice-aggregate-show : tie.Need-slice-aggregate-show
 slice-aggregate-show c =
-    c .before .before .before .before .before .canaries .ensures ∙ sym (length-front (c .before .before .before .before .before .canaries .result) (c .before .before .write .last .1 .0) (c .before .before .before .before .before .before .before .before .before .before .before .before .before .args .room) (c .before .before .write .kept .1 .0))
+    omega (arith, c .before .before .before .before .before .before .put .kept .0, length-front (c .before .before .before .before .before .before .put .last .0) (c .before .before .write .last .1 .0) (c .before .before .before .before .before .before .before .before .before .before .before .before .before .before .before .before .args .room) (c .before .before .write .kept .1 .0))
 
 show-requires : tie.Need-show-requires
 show-requires c κs = tt
@@ -75,7 +72,9 @@ write-spec =
     returns
     malformed-requires-2
     returns-2
-    canaries-requires
+    buffer-requires-2
+    slice-aggregate-put
+    put-requires
     array-share-prefix-list
     slice-aggregate-write
     array-borrow-prefix-out

@@ -2,14 +2,12 @@
 -- Assumes nothing.
 use mathlib.Core.Path.{_≡_, refl, sym, ap, _∙_}
 use mathlib.Core.List.{List, _++_}
-use Prim.Native.Nat.{ℕ, _+_, _*_, _-_, _/_, _≤_, _<_}
+use Prim.Native.Nat.{ℕ, _*_, _-_, _/_, _≤_, _<_}
 use native.Mathlib.Omega.{arith}
 use native.Mathlib.Numerals.{add-one}
 use lib.ListN.{length}
-use lib.Seq.{paste}
 use denote.Ref.{now}
-use borrow.Author.Needs.{needs}
-use Rattle.text.specs.Text.{lines, lineAt, imageText}
+use Rattle.text.specs.Text.{lines, imageText}
 use Rattle.text.proofs.Written.{over, over-step, lines-length, answered-fits, answered-short, stored-fits, stored-short}
 use Rattle.text.proofs.image_text.Statement.{statement}
 use Rattle.text.proofs.image_text.Tie as tie
