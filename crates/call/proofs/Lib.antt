@@ -1,4 +1,3 @@
 pub mod Filling
 pub mod Writing
 pub mod Reading
-pub mod Links

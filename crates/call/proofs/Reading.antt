@@ -1,9 +1,10 @@
 -- What the reader answers and leaves in the lent buffer: each refusal, and the list.
 -- Assumes nothing.
-use mathlib.Core.Path.{_≡_, refl, sym, ap, ap₂, _∙_}
+use mathlib.Core.Path.{_≡_, refl, sym, ap, ap₂, _∙_, subst}
 use mathlib.Core.List.{List, [], _∷_, _++_}
 use mathlib.Core.Bool.{Bool, true, false, cond}
 use Prim.Native.Nat.{ℕ, suc, _+_, _≤_, _<_}
+use mathlib.Core.Logic.{_↔_}
 use native.Mathlib.Omega.{arith}
 use lib.ListN.{length, drop, length-append}
 use lib.Dec.{eqb, ltb}
@@ -11,8 +12,8 @@ use borrow.Author.Tests.{eq-eqb, ne-eqb, lt-ltb, le-ltb, ltb-true, ltb-false}
 use Rattle.words.specs.Words.{body, proper}
 use Rattle.carried.specs.Image as C
 use Rattle.carried.specs.Image.{gather, Placed, reading}
-use Rattle.carried.specs.Convention.{next, Plan, bad, good, plan}
-use Rattle.carried.proofs.Readings.{length-body, fits-carriers}
+use Rattle.carried.specs.Convention.{next, Plan, bad, good, plan, readUnder, read}
+use Rattle.carried.proofs.Readings.{length-body, fits-carriers, Passed, checked-passes}
 use Rattle.carried.proofs.Walks.{Walk, end, one, walk-of, sized-at}
 use Rattle.o32.specs.declared.Kind.{Kind}
 use Rattle.o32.specs.declared.State.{State}
@@ -29,7 +30,7 @@ use Rattle.reader.specs.declared.Checked.{Checked}
 use Rattle.reader.specs.declared.Checked.the-variants as K
 use Rattle.reader.specs.Reading.{listLength, roomFor, firstImproper, improperIn, readingIn, Readable}
 use Rattle.call.specs.declared.Answer.{Answer}
-use Rattle.call.specs.Answers.{answerOf, bufferOf, readInto}
+use Rattle.call.specs.Answers.{answerOf, bufferOf, readInto, readWith}
 
 -- the length of a reading is the signature's
 reading-length : {st last : State} {ks : List ℕ} {L : List Placed} → Walk O32 O32-laws st ks L last → (img : List ℕ) → length (reading L img) ≡ listLength ks
@@ -141,3 +142,33 @@ module _ (sig img out : List ℕ) where
             answer = rw (counted, ← long) (rw (w .planned, same-length, enough, c));
             buffer = k ∙ rw (w .planned, same-length, enough, c, long);
           }
+
+-- ---- the reader with a buffer gives a list exactly where the theorem's reader gives it and it fits
+
+-- what refusal 8 lets pass is the answer itself
+passes : (L : List Placed) (img : List ℕ) (at : ℕ) (y x : List ℕ) → C.checked at L img (C.done y) ≡ C.done x → y ≡ x
+passes L img at y x e = subst (λ (a : C.Answer). Passed L img a y) e (checked-passes L img y at) .1
+
+pub read-is : (sig img x : List ℕ) (room : ℕ) → (readInto sig img room ≡ C.done x) ↔ ((read O32 sig img ≡ C.done x) × (length x ≤ room))
+read-is sig img x room = go (plan O32 false sig)
+  where
+    go : (q : Plan State) → (readWith img room q ≡ C.done x) ↔ ((readUnder O32 img q ≡ C.done x) × (length x ≤ room))
+    go (bad r at) = ((λ e. let z : _≡_ {A = ℕ} 0 1 = cc in absurd (omega arith)), λ h. h .0)
+    go (good L st) = tests (eqb (length img) (O32 .imageLength st)) (ltb room (length (reading L img))) refl
+      where
+        tests : (t u : Bool) → ltb room (length (reading L img)) ≡ u
+            → (cond t (cond u (C.refused 7 0) (C.checked 0 L img (C.done (reading L img)))) (C.refused 6 0) ≡ C.done x)
+            ↔ ((cond t (C.checked 0 L img (C.done (reading L img))) (C.refused 6 0) ≡ C.done x) × (length x ≤ room))
+        tests false u f = ((λ e. let z : _≡_ {A = ℕ} 0 1 = cc in absurd (omega arith)), λ h. h .0)
+        tests true true f = (
+          (λ e. let z : _≡_ {A = ℕ} 0 1 = cc in absurd (omega arith)),
+          λ h.
+              let i : reading L img ≡ x = passes L img 0 (reading L img) x (h .0) in
+              absurd (omega (arith, ltb-true room (length (reading L img)) f, ap length i, h .1)),
+        )
+        tests true false f = (
+          (λ e.
+              let i : reading L img ≡ x = passes L img 0 (reading L img) x e in
+              (e, omega (arith, ltb-false room (length (reading L img)) f, ap length i))),
+          λ h. h .0,
+        )

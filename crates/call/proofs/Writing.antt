@@ -2,16 +2,18 @@
 -- Assumes nothing.
 use mathlib.Core.Path.{_≡_, refl, sym, ap, _∙_}
 use mathlib.Core.List.{List, [], _∷_, _++_, append-assoc}
-use mathlib.Core.Bool.{Bool, true}
+use mathlib.Core.Bool.{Bool, true, false, cond}
 use Prim.Native.Nat.{ℕ, suc, _+_, _-_, _≤_, _<_}
+use mathlib.Core.Logic.{_↔_}
 use native.Mathlib.Omega.{arith}
 use native.Mathlib.Numerals.{add-one}
 use lib.Seq.{drop-set-add, drop-cons, set-at, append-snoc}
 use lib.ListN.{length, getD, set, drop, replicate, length-set, length-replicate, replicate-append-replicate}
-use lib.Dec.{leb}
-use borrow.Author.Tests.{lt-ltb, le-ltb, leb-true}
+use lib.Dec.{leb, ltb}
+use borrow.Author.Tests.{lt-ltb, le-ltb, leb-true, ltb-false}
+use Rattle.carried.specs.Image as C
 use Rattle.carried.specs.Image.{put, Placed, carried, promotedBytes, image}
-use Rattle.carried.specs.Convention.{Plan, bad, good, plan}
+use Rattle.carried.specs.Convention.{Plan, bad, good, plan, write}
 use Rattle.carried.specs.Demand.{OneEach}
 use Rattle.carried.proofs.Places.{length-put, put-left}
 use Rattle.carried.proofs.Walks.{Walked, walked, walk-fits, walk-one-each}
@@ -23,7 +25,7 @@ use Rattle.records.specs.declared.Measured.the-variants as M
 use Rattle.records.specs.Records.{measured}
 use Rattle.block.specs.Block.{blockBytes}
 use Rattle.call.specs.declared.Answer.{Answer}
-use Rattle.call.specs.Answers.{answerOf, bufferOf, writeInto}
+use Rattle.call.specs.Answers.{answerOf, bufferOf, writeInto, within}
 use Rattle.call.specs.Filling.{Fillable, filled}
 
 -- the first pass has found an image's length
@@ -132,3 +134,16 @@ pub clear-ends : (out : List ℕ) (n : ℕ) (o : List ℕ) (i : ℕ) → Clearin
 clear-ends out n o i w h =
     let e : i ≡ n = omega (arith, w .to) in
     w .zeroed ∙ rw e
+
+-- ---- the writer with a buffer gives an image exactly where the theorem's writer gives it and it fits
+
+pub written-is : (list x : List ℕ) (room : ℕ) → (writeInto list room ≡ C.done x) ↔ ((write O32 list ≡ C.done x) × (length x ≤ room))
+written-is list x room = (there (write O32 list), λ h. rw (h .0, le-ltb room (length x) (h .1)))
+  where
+    there : (a : C.Answer) → within room a ≡ C.done x → (a ≡ C.done x) × (length x ≤ room)
+    there (C.refused r at) e = let z : _≡_ {A = ℕ} 0 1 = cc in absurd (omega arith)
+    there (C.done y) e = go (ltb room (length y)) refl e
+      where
+        go : (t : Bool) → ltb room (length y) ≡ t → cond t (C.refused 7 0) (C.done y) ≡ C.done x → (C.done y ≡ C.done x) × (length x ≤ room)
+        go true f e = let z : _≡_ {A = ℕ} 0 1 = cc in absurd (omega arith)
+        go false f e = let g : y ≡ x = cc in (e, rw (← g) (ltb-false room (length y) f))

@@ -98,14 +98,14 @@ pub fn write(list: &[u8], out: &mut [u8]) -> Answer
     let Measured::Accepted { count: _, end } = found else {
         return refused(found);
     };
-    let n = image_length(end);
-    if out.len() < n {
+    let length = image_length(end);
+    if out.len() < length {
         return reply(7, 0, 0); // the image does not fit
     }
-    clear(out, n);
-    let block = fill(list, out, n);
+    clear(out, length);
+    let block = fill(list, out, length);
     block::write_block(block, out);
-    reply(0, 0, n)
+    reply(0, 0, length)
 }
 
 // The answer where a word is no proper promotion.
