@@ -4,7 +4,7 @@ use mathlib.Core.Path.{_≡_, refl, sym, ap, _∙_, subst}
 use mathlib.Core.Logic.{_⊎_}
 use mathlib.Core.List.{List, [], _∷_}
 use mathlib.Core.Bool.{Bool, true, false, cond}
-use Prim.Native.Nat.{ℕ, _+_, _-_, _^_, _≤_, _<_}
+use Prim.Native.Nat.{ℕ, _+_, _-_, _≤_, _<_}
 use native.Mathlib.Omega.{arith}
 use lib.ListN.{length, getD, drop}
 use lib.Dec.{leb, ltb}
@@ -27,7 +27,7 @@ use Rattle.records.specs.declared.Record.{Record}
 use Rattle.records.specs.declared.Record.the-variants as R
 use Rattle.records.specs.Records.{recordOf}
 use Rattle.records.proofs.Measures.{step-refused, step-taken}
-use Rattle.block.specs.Block.{Floating, Fit}
+use Rattle.block.specs.Block.{Fit}
 
 -- the records from this place on, of a list or signature whose image has m bytes
 pub record Ahead (bodies : Bool) (list : List ℕ) (m : ℕ) (st : State) (at : ℕ) : Type 0 where

@@ -6,8 +6,8 @@ use Prim.Native.Nat.{ℕ, zero, suc, _+_, _≤_, _<_}
 use native.Mathlib.Omega.{arith}
 use native.Mathlib.Numerals.{add-one}
 use native.Mathlib.Nat.{zero-add, suc-add, add-zero, add-suc}
-use lib.ListN.{length, getD, set, take, drop, length-append, length-drop, length-set}
-use lib.Seq.{length-take-le, take-suc, take-add, getD-drop, drop-drop, drop-set-add, set-at, set-append-left, append-snoc}
+use lib.ListN.{length, getD, set, take, drop, length-append, length-drop}
+use lib.Seq.{length-take-le, take-suc, take-add, getD-drop, drop-drop, drop-set-add, set-at, append-snoc}
 use Rattle.carried.specs.Image.{put}
 use Rattle.o32.specs.O32.{run}
 use Rattle.carried.proofs.Places as Places

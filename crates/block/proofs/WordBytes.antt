@@ -5,13 +5,10 @@ use mathlib.Core.List.{List, [], _∷_, _++_}
 use mathlib.Core.Bool.{Bool}
 use Prim.Native.Nat.{ℕ, zero, suc, _+_, _*_, _/_, _%_, _^_, _≤_, _<_}
 use native.Mathlib.Omega.{arith}
-use native.Mathlib.Numerals.{add-one, add-two, add-three}
 use native.Mathlib.Nat.{one-le-pow, mod-lt, div-eq-of-lt, mul-add-div-right, add-comm, add-zero, zero-add}
 use lib.ListN.{length, getD, set, take, drop, length-drop}
 use lib.Seq.{take-suc, getD-drop, set-at, set-append-left}
 use Rattle.words.specs.Words.{bytesOf, toWord, promote}
-use Rattle.carried.specs.Image.{put}
-use Rattle.o32.specs.O32.{run}
 use Rattle.words.proofs.Bytes.{length-bytes, bytes-split, bytes-above, bytes-mod}
 
 -- one byte more
@@ -43,14 +40,6 @@ word-read src at n x b h e = ap (bytesOf n) e ∙ number-bytes src at b n h
 pub promotion-read : (src : List ℕ) (at n size x w : ℕ) (signed : Bool) → ((i : ℕ) → getD src i 0 < 256) → size ≡ n → at + size ≤ length src → x ≡ numberAt src at n
     → bytesOf 4 w ≡ promote (toWord signed n) (bytesOf n x) → bytesOf 4 w ≡ promote (toWord signed size) (take size (drop at src))
 promotion-read src at n size x w signed b s h e f = f ∙ rw (s, word-read src at n x b (omega arith) e)
-
--- a word taken apart: four stores in a row
-pub four-stores : (out : List ℕ) (at w : ℕ) → w < 4294967296
-    → set (set (set (set out at (w / 16777216)) (at + 1) (w / 65536 % 256)) (at + 2) (w / 256 % 256)) (at + 3) (w % 256) ≡ put out (run at 4) (bytesOf 4 w)
-four-stores out at w h =
-    let a : w / 256 / 256 / 256 % 256 ≡ w / 16777216 = omega arith in
-    let b : w / 256 / 256 ≡ w / 65536 = omega arith in
-    rw (a, b, add-one, add-two, add-three)
 
 -- byte k replaced, with m bytes behind it
 pub byte-replaced : (n k m w b r : ℕ) → n ≡ suc k + m → b < 256 → r ≡ (w / 256 ^ m / 256 * 256 + b) * 256 ^ m + w % 256 ^ m → bytesOf n r ≡ set (bytesOf n w) k b

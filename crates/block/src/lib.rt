@@ -36,17 +36,6 @@ fn promoted_at(src: &[u8], at: usize, size: usize, signed: bool) -> u32
     words::promote_halfword(h, signed)
 }
 
-// A word big-endian at a place.
-fn write_word(out: &mut [u8], at: usize, w: u32)
-    requires { ⌜ at + 4 ≤ length (now out) ⌝ }
-    ensures { λ _. ⌜ now (out .exit) ≡ put (now (out .entry)) (run at 4) (bytesOf 4 w) ⌝ }
-{
-    out[at] = (w / 16777216) as u8;
-    out[at + 1] = (w / 65536 % 256) as u8;
-    out[at + 2] = (w / 256 % 256) as u8;
-    out[at + 3] = (w % 256) as u8;
-}
-
 // The block's words into the first 32 bytes of the image.
 pub fn write_block(block: [u32; 8], out: &mut [u8])
     requires { ⌜ 32 ≤ length (now out) ⌝ }
@@ -54,7 +43,7 @@ pub fn write_block(block: [u32; 8], out: &mut [u8])
 {
     let mut i = 0;
     while i < 8 {
-        write_word(out, i * 4, block[i]);
+        words::write_word(out, i * 4, block[i]);
         i += 1;
     }
 }
@@ -111,7 +100,7 @@ fn put_word(block: [u32; 8], out: &mut [u8], o: usize, w: u32) -> [u32; 8]
         next[o / 4] = w;
         return next;
     }
-    write_word(out, 32 + o, w);
+    words::write_word(out, 32 + o, w);
     block
 }
 

@@ -3,19 +3,18 @@
 use mathlib.Core.Path.{_≡_, refl, sym, ap, ap₂, _∙_, subst}
 use mathlib.Core.List.{List, [], _∷_, _++_}
 use mathlib.Core.Bool.{Bool, true, false, cond}
-use Prim.Native.Nat.{ℕ, suc, _+_, _≤_, _<_}
+use Prim.Native.Nat.{ℕ, suc, _+_, _≤_}
 use mathlib.Core.Logic.{_↔_}
 use native.Mathlib.Omega.{arith}
 use lib.ListN.{length, drop, length-append}
 use lib.Dec.{eqb, ltb}
-use borrow.Author.Tests.{eq-eqb, ne-eqb, lt-ltb, le-ltb, ltb-true, ltb-false}
+use borrow.Author.Tests.{eq-eqb, ne-eqb, ltb-true, ltb-false}
 use Rattle.words.specs.Words.{body, proper}
 use Rattle.carried.specs.Image as C
 use Rattle.carried.specs.Image.{gather, Placed, reading}
-use Rattle.carried.specs.Convention.{next, Plan, bad, good, plan, readUnder, read}
+use Rattle.carried.specs.Convention.{Plan, bad, good, plan, readUnder, read}
 use Rattle.carried.proofs.Readings.{length-body, fits-carriers, Passed, checked-passes}
 use Rattle.carried.proofs.Walks.{Walk, end, one, walk-of, sized-at}
-use Rattle.o32.specs.declared.Kind.{Kind}
 use Rattle.o32.specs.declared.State.{State}
 use Rattle.o32.specs.declared.Placement.{Placement}
 use Rattle.o32.specs.Kinds.{kindOf}
@@ -28,9 +27,10 @@ use Rattle.records.specs.Records.{measured}
 use Rattle.reader.specs.declared.Room.the-variants as R
 use Rattle.reader.specs.declared.Checked.{Checked}
 use Rattle.reader.specs.declared.Checked.the-variants as K
-use Rattle.reader.specs.Reading.{listLength, roomFor, firstImproper, improperIn, readingIn, Readable}
-use Rattle.call.specs.declared.Answer.{Answer}
-use Rattle.call.specs.Answers.{answerOf, bufferOf, readInto, readWith}
+use Rattle.reader.specs.Reading.{listLength, roomFor, firstImproper, improperIn, readingIn, delivered, Readable}
+use Rattle.answers.specs.declared.Answer.{Answer}
+use Rattle.answers.specs.Answers.{answerOf, bufferOf}
+use Rattle.call.specs.Answers.{readInto, readWith}
 
 -- the length of a reading is the signature's
 reading-length : {st last : State} {ks : List ℕ} {L : List Placed} → Walk O32 O32-laws st ks L last → (img : List ℕ) → length (reading L img) ≡ listLength ks
@@ -127,20 +127,25 @@ module _ (sig img out : List ℕ) where
       pub read-room : listLength sig ≤ length out
       read-room = rw long at (ltb-false (length out) (length (reading (w .placed) img)) enough)
 
-      pub read-improper : (q : Checked) (p : ℕ) (a : Answer) → q ≡ improperIn (plan O32 false sig) img → q ≡ K.Improper p → a ≡ record { refusal = 8; place = p; length = 0 } → Right sig img out a out
-      read-improper q p a i j k =
+      -- what the last pass has left: q is what it found, o the buffer
+      abbrev left : Checked → List ℕ
+      left q = delivered q (readingIn (plan O32 false sig) img ++ drop (listLength sig) out) out
+
+      pub read-improper : (q : Checked) (p : ℕ) (a : Answer) (o : List ℕ) → q ≡ improperIn (plan O32 false sig) img → o ≡ left (improperIn (plan O32 false sig) img)
+          → q ≡ K.Improper p → a ≡ record { refusal = 8; place = p; length = 0 } → Right sig img out a o
+      read-improper q p a o i l j k =
           let c : C.checked 0 (w .placed) img (C.done (reading (w .placed) img)) ≡ C.refused 8 p =
           rw j at (judged-by (w .placed) img (C.done (reading (w .placed) img)) q (i ∙ rw (w .planned))) in
-          record { answer = k ∙ rw (w .planned, same-length, enough, c); buffer = rw (w .planned, same-length, enough, c) }
+          record { answer = k ∙ rw (w .planned, same-length, enough, c); buffer = l ∙ ap left (sym i ∙ j) ∙ rw (w .planned, same-length, enough, c) }
 
-      pub read-done : (q : Checked) (o : List ℕ) → q ≡ improperIn (plan O32 false sig) img → q ≡ K.Proper → o ≡ readingIn (plan O32 false sig) img ++ drop (listLength sig) out
+      pub read-done : (q : Checked) (o : List ℕ) → q ≡ improperIn (plan O32 false sig) img → o ≡ left (improperIn (plan O32 false sig) img) → q ≡ K.Proper
           → Right sig img out (record { refusal = 0; place = 0; length = n }) o
-      read-done q o i j k =
+      read-done q o i l j =
           let c : C.checked 0 (w .placed) img (C.done (reading (w .placed) img)) ≡ C.done (reading (w .placed) img) =
           rw j at (judged-by (w .placed) img (C.done (reading (w .placed) img)) q (i ∙ rw (w .planned))) in
           record {
             answer = rw (counted, ← long) (rw (w .planned, same-length, enough, c));
-            buffer = k ∙ rw (w .planned, same-length, enough, c, long);
+            buffer = l ∙ ap left (sym i ∙ j) ∙ rw (w .planned, same-length, enough, c, long);
           }
 
 -- ---- the reader with a buffer gives a list exactly where the theorem's reader gives it and it fits

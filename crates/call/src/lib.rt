@@ -1,43 +1,22 @@
 // The writer and the reader: an argument list becomes a call image in a lent buffer, and an image its list again.
-ghost use mathlib.Core.List.{_++_};
-ghost use mathlib.Core.Bool.{true};
 ghost use mathlib.Core.Path.{_≡_};
-ghost use Prim.Native.Nat.{_+_, _-_, _≤_, ℕ};
-ghost use lib.ListN.{drop, length, replicate, take};
-ghost use Rattle.carried.specs.Convention.{plan};
-ghost use Rattle.o32.specs.O32.{O32, area};
-ghost use Rattle.block.specs.Block.{whole};
-ghost use Rattle.call.specs.Answers.{answerOf, bufferOf, readInto, writeInto};
-ghost use Rattle.call.specs.Filling.{Fillable, filled};
+ghost use Prim.Native.Nat.{_+_, _≤_, ℕ};
+ghost use lib.ListN.{length};
+ghost use Rattle.o32.specs.O32.{area};
+ghost use Rattle.answers.specs.Answers.{answerOf, bufferOf};
+ghost use Rattle.call.specs.Answers.{readInto, writeInto};
+use answers::Answer;
 use reader::Checked;
 use reader::Room;
 use records::Measured;
-use records::Record;
-
-// What a function with a lent buffer answers: a refusal and its place, or 0, 0 and the length of what was written.
-pub struct Answer {
-    pub refusal: u32,
-    pub place: usize,
-    pub length: usize,
-}
-
-fn reply(refusal: u32, place: usize, length: usize) -> Answer
-    ensures { λ r. ⌜ r ≡ record { refusal = refusal; place = place; length = length } ⌝ }
-{
-    Answer {
-        refusal,
-        place,
-        length,
-    }
-}
 
 // The answer of a list or signature that is refused.
 fn refused(found: Measured) -> Answer
     ensures { λ r. ⌜ ((n p : ℕ) → found ≡ Measured.Refused n p → r ≡ record { refusal = n; place = p; length = 0 }) ⌝ }
 {
     match found {
-        Measured::Refused { number, place } => reply(number, place, 0),
-        _ => reply(0, 0, 0),
+        Measured::Refused { number, place } => answers::reply(number, place, 0),
+        _ => answers::reply(0, 0, 0),
     }
 }
 
@@ -52,43 +31,6 @@ fn image_length(end: usize) -> usize
     32 + (end + 7) / 8 * 8
 }
 
-// Zero in the area of an image of n bytes.
-fn clear(out: &mut [u8], n: usize)
-    requires { ⌜ (32 ≤ n) × (n ≤ length (now out)) ⌝ }
-    ensures { λ _. ⌜ drop 32 (now (out .exit)) ≡ replicate (n - 32) 0 ++ drop n (now (out .entry)) ⌝ }
-{
-    let mut i = 32;
-    while i < n {
-        out[i] = 0;
-        i += 1;
-    }
-}
-
-// The arguments of a list that was accepted, each at its place: in the register block that is answered, and in the area.
-fn fill(list: &[u8], out: &mut [u8], n: usize) -> [u32; 8]
-    requires { ⌜ Fillable (now list) n ⌝ }
-    requires { ⌜ n ≤ length (now out) ⌝ }
-    ensures { λ r. ⌜ whole r (now (out .exit)) ≡ filled (plan O32 true (now (list .entry))) (now (list .entry)) (whole (replicate 8 0) (now (out .entry))) ⌝ }
-{
-    let mut block = [0u32; 8];
-    let mut st = records::start();
-    let mut at = 0;
-    while at < list.len() {
-        let left = list.len() - (at + 1);
-        let answer = records::take(st, list[at], true, left);
-        let Record::Taken { placement, next } = answer else {
-            return block;
-        };
-        let body = at + 1;
-        let changed = block::put_argument(block, out, placement, list, body);
-        block = changed;
-        let kind = placement.kind;
-        at = body + kind.size;
-        st = next;
-    }
-    block
-}
-
 // The call image of a list. Refusals 1 to 5 by record, then 7; no byte is stored before all are decided.
 pub fn write(list: &[u8], out: &mut [u8]) -> Answer
     ensures answer { λ r. ⌜ r ≡ answerOf (writeInto (now (list .entry)) (length (now (out .entry)))) ⌝ }
@@ -100,12 +42,10 @@ pub fn write(list: &[u8], out: &mut [u8]) -> Answer
     };
     let length = image_length(end);
     if out.len() < length {
-        return reply(7, 0, 0); // the image does not fit
+        return answers::reply(7, 0, 0); // the image does not fit
     }
-    clear(out, length);
-    let block = fill(list, out, length);
-    block::write_block(block, out);
-    reply(0, 0, length)
+    writer::lay(list, out, length);
+    answers::reply(0, 0, length)
 }
 
 // The answer where a word is no proper promotion.
@@ -113,8 +53,8 @@ fn improper(found: Checked) -> Answer
     ensures { λ r. ⌜ ((p : ℕ) → found ≡ Checked.Improper p → r ≡ record { refusal = 8; place = p; length = 0 }) ⌝ }
 {
     match found {
-        Checked::Improper(place) => reply(8, place, 0),
-        _ => reply(0, 0, 0),
+        Checked::Improper(place) => answers::reply(8, place, 0),
+        _ => answers::reply(0, 0, 0),
     }
 }
 
@@ -129,16 +69,15 @@ pub fn read(signature: &[u8], image: &[u8], out: &mut [u8]) -> Answer
         return refused(found);
     };
     if image.len() != image_length(end) {
-        return reply(6, 0, 0);
+        return answers::reply(6, 0, 0);
     }
     let room = reader::list_length(signature, out.len());
     let Room::Enough(n) = room else {
-        return reply(7, 0, 0);
+        return answers::reply(7, 0, 0);
     };
-    let checked = reader::check(signature, image);
+    let checked = reader::deliver(signature, image, out);
     let Checked::Proper = checked else {
         return improper(checked);
     };
-    reader::copy_list(signature, image, out);
-    reply(0, 0, n)
+    answers::reply(0, 0, n)
 }

@@ -3,13 +3,14 @@ use mathlib.Core.List.{List, [], _∷_, _++_, map}
 use mathlib.Core.Bool.{Bool, true, false, cond, not, _&&_, _||_}
 use Prim.Native.Nat.{ℕ, zero, suc, _+_, _-_, _*_, max}
 use lib.Dec.{eqb, leb, ltb}
+use Rattle.words.specs.Words.{up}
 use Rattle.carried.specs.Convention.{Step, refuse, next, Convention}
 use Rattle.o32.specs.declared.Class.the-variants.{Unknown, Marker, Pointer, Float}
 use Rattle.o32.specs.declared.Kind.{Kind}
 use Rattle.o32.specs.declared.State.{State}
 use Rattle.o32.specs.declared.Placement.{Placement}
 use Rattle.o32.specs.Kinds.{kindOf, is}
-use Rattle.o32.specs.Offsets.{extension, width, up, offset, ending}
+use Rattle.o32.specs.Offsets.{extension, width, offset, ending}
 
 -- Rule 3. The floating register of an argument, or 0. "If the first argument is s or d, it goes to `$f12`. If it is and the
 -- second is s or d before any marker, that one goes to `$f14`. .. No other argument uses these registers. A return pointer

@@ -1,7 +1,7 @@
 -- Placement rules 1 and 2: the bytes of an argument, and its offset. Nothing here knows of registers.
 use mathlib.Core.Bool.{true, false, cond, _||_}
-use Prim.Native.Nat.{ℕ, _+_, _-_, _*_, _/_}
-use Rattle.words.specs.Words.{Extension, zeros, toWord}
+use Prim.Native.Nat.{ℕ, _+_}
+use Rattle.words.specs.Words.{up, Extension, zeros, toWord}
 use Rattle.o32.specs.declared.Class.the-variants.{Signed, Unsigned}
 use Rattle.o32.specs.declared.Kind.{Kind}
 use Rattle.o32.specs.Kinds.{is}
@@ -13,10 +13,6 @@ extension k = cond (is Signed k) (toWord true (k .size)) (cond (is Unsigned k) (
 -- How many bytes an argument has after promotion, without fill.
 abbrev pub width : Kind → ℕ
 width k = cond (is Signed k || is Unsigned k) 4 (k .size)
-
--- The next multiple of a, from n on. (0 where a is 0: a marker has no offset.)
-abbrev pub up : ℕ → ℕ → ℕ
-up a n = (n + (a - 1)) / a * a
 
 -- Rule 2. "Arguments lie as members of one structure from offset 0: each at the next multiple of its alignment." The end is
 -- that of the arguments before.

@@ -11,15 +11,15 @@ use lib.Seq.{getD-append-add}
 use lib.Dec.{eqb}
 use borrow.Author.Tests.{lt-ltb, le-ltb, ne-eqb, eqb-true}
 use Rattle.carried.specs.Image.{Placed}
-use Rattle.carried.specs.Convention.{Step, refuse, next, good, plan}
+use Rattle.carried.specs.Convention.{good, plan}
 use Rattle.carried.proofs.Walks.{Walk, one, walk-of}
-use Rattle.o32.specs.declared.Class.the-variants.{Unknown, Marker, Float}
+use Rattle.o32.specs.declared.Class.the-variants.{Marker, Float}
 use Rattle.o32.specs.declared.Kind.{Kind}
 use Rattle.o32.specs.declared.State.{State}
 use Rattle.o32.specs.declared.Placement.{Placement}
 use Rattle.o32.specs.Kinds.{kindOf, is, classNumber}
 use Rattle.o32.specs.Offsets.{width, offset, ending}
-use Rattle.o32.specs.O32.{register, run, registerWord, floatBytes, carrier, carriers, misplaced, full, onward, stepped, O32}
+use Rattle.o32.specs.O32.{register, run, registerWord, floatBytes, carrier, carriers, misplaced, onward, O32}
 use Rattle.placement.specs.Carrying.{endOf, registerBehind, CarriedAt}
 use Rattle.placement.proofs.KindFacts.{kind-sound}
 use Rattle.placement.proofs.Steps.{placement, Stepped, Says, says}

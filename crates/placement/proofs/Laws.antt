@@ -10,7 +10,7 @@ use native.Mathlib.Nat.{div-add-mod', div-mul-le-self, mod-lt}
 use lib.ListN.{length, length-append, length-replicate, length-map}
 use lib.Dec.{eqb, ltb}
 use borrow.Author.Tests.{ltb-true, ltb-false, eqb-true}
-use Rattle.words.specs.Words.{Extension, zeros, toWord, promote, front}
+use Rattle.words.specs.Words.{up, Extension, zeros, toWord, promote, front}
 use Rattle.carried.specs.Image.{Placed}
 use Rattle.carried.specs.Convention.{Step, refuse, next, good, plan}
 use Rattle.carried.specs.Demand.{In, Distinct, Carried, RoundTrip}
@@ -24,7 +24,7 @@ use Rattle.o32.specs.declared.Kind.{Kind}
 use Rattle.o32.specs.declared.State.{State}
 use Rattle.o32.specs.declared.Placement.{Placement}
 use Rattle.o32.specs.Kinds.{kindOf}
-use Rattle.o32.specs.Offsets.{extension, up, offset, ending}
+use Rattle.o32.specs.Offsets.{extension, offset, ending}
 use Rattle.o32.specs.O32.{register, run, registerWord, floatBytes, carrier, carriers, area, misplaced, full, onward, stepped, O32}
 use Rattle.placement.proofs.KindFacts.{Sound, kind-sound}
 

@@ -1,22 +1,23 @@
 -- What holds of a record that a step of O32 places: its placement, the state behind it, and where it ends.
 -- Assumes nothing.
-use mathlib.Core.Path.{_≡_, refl, sym, ap, _∙_, subst}
+use mathlib.Core.Path.{_≡_, refl, ap, _∙_, subst}
 use mathlib.Core.Logic.{_⊎_, inl, inr}
-use mathlib.Core.Bool.{Bool, true, false, cond, not, _&&_, _||_}
-use Prim.Native.Nat.{ℕ, zero, suc, _+_, _-_, _*_, _%_, _≤_, _<_}
+use mathlib.Core.Bool.{Bool, true, false, cond, not, _&&_}
+use Prim.Native.Nat.{ℕ, _+_, _-_, _%_, _≤_}
 use native.Mathlib.Omega.{arith}
 use native.Mathlib.Nat.{mul-zero}
 use lib.Dec.{eqb}
 use borrow.Author.Tests.{eqb-true}
 use Rattle.carried.specs.Convention.{Step, refuse, next}
-use Rattle.o32.specs.declared.Class.the-variants.{Unknown, Marker, Signed, Unsigned, Float}
+use Rattle.o32.specs.declared.Class.the-variants.{Unknown, Marker, Float}
 use Rattle.o32.specs.declared.Kind.{Kind}
 use Rattle.o32.specs.declared.State.{State}
 use Rattle.o32.specs.declared.Placement.{Placement}
 use Rattle.o32.specs.Kinds.{kindOf, is, classNumber}
-use Rattle.o32.specs.Offsets.{width, up, offset, ending}
+use Rattle.words.specs.Words.{up}
+use Rattle.o32.specs.Offsets.{width, offset}
 use Rattle.o32.specs.O32.{register, misplaced, full, onward, stepped, O32}
-use Rattle.placement.proofs.KindFacts.{Sound, kind-sound}
+use Rattle.placement.proofs.KindFacts.{kind-sound}
 use Rattle.placement.proofs.Laws.{up-ge}
 
 abbrev pub placement : State → Kind → Placement

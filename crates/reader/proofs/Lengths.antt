@@ -1,8 +1,8 @@
 -- The length of a list under a signature, kind byte by kind byte.
 -- Assumes nothing.
-use mathlib.Core.Path.{_≡_, refl, sym, ap, _∙_}
-use mathlib.Core.List.{List, [], _∷_}
-use Prim.Native.Nat.{ℕ, suc, _+_, _-_, _^_, _≤_, _<_}
+use mathlib.Core.Path.{_≡_, ap, _∙_}
+use mathlib.Core.List.{List}
+use Prim.Native.Nat.{ℕ, suc, _+_, _-_, _≤_, _<_}
 use native.Mathlib.Omega.{arith}
 use native.Mathlib.Numerals.{add-one}
 use lib.ListN.{length, getD, drop}
@@ -11,7 +11,6 @@ use borrow.Author.Tests.{lt-ltb, le-ltb}
 use Rattle.o32.specs.declared.Kind.{Kind}
 use Rattle.o32.specs.Kinds.{kindOf}
 use Rattle.placement.proofs.KindFacts.{kind-sound}
-use Rattle.reader.specs.declared.Room.{Room}
 use Rattle.reader.specs.declared.Room.the-variants as R
 use Rattle.reader.specs.Reading.{listLength, roomFor}
 

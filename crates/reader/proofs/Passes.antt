@@ -3,22 +3,21 @@
 use mathlib.Core.Path.{_≡_, refl, sym, ap, ap₂, _∙_}
 use mathlib.Core.List.{List, [], _∷_, _++_, append-assoc, append-nil}
 use mathlib.Core.Bool.{Bool, true, false, cond}
-use Prim.Native.Nat.{ℕ, suc, _+_, _-_, _^_, _≤_, _<_}
+use Prim.Native.Nat.{ℕ, suc, _+_, _-_, _≤_, _<_}
 use native.Mathlib.Omega.{arith}
 use native.Mathlib.Numerals.{add-one}
-use lib.ListN.{length, getD, set, drop, length-append, length-drop, length-set}
+use lib.ListN.{length, getD, set, drop, length-append, length-drop}
 use lib.Seq.{drop-drop, drop-length}
 use Rattle.words.specs.Words.{body, proper}
 use Rattle.carried.specs.Image.{gather, put, Placed, reading}
 use Rattle.carried.specs.Convention.{taken, plan}
-use Rattle.carried.proofs.Places.{length-gather, length-put}
 use Rattle.carried.proofs.Readings.{length-body, fits-carriers}
 use Rattle.o32.specs.declared.Kind.{Kind}
 use Rattle.o32.specs.declared.State.{State}
 use Rattle.o32.specs.declared.Placement.{Placement}
 use Rattle.o32.specs.Kinds.{kindOf}
 use Rattle.o32.specs.Offsets.{extension}
-use Rattle.o32.specs.O32.{O32, area, carriers, run}
+use Rattle.o32.specs.O32.{O32, carriers, run}
 use Rattle.records.specs.declared.Record.{Record}
 use Rattle.records.specs.declared.Record.the-variants as R
 use Rattle.records.specs.Records.{recordOf}
@@ -28,7 +27,7 @@ use Rattle.block.proofs.Ahead as A
 use Rattle.block.proofs.Ahead.{Ahead, ahead-starts, ahead-ends, ahead-kind, ahead-sized, ahead-fit, Behind, ahead-turn}
 use Rattle.reader.specs.declared.Checked.{Checked}
 use Rattle.reader.specs.declared.Checked.the-variants as K
-use Rattle.reader.specs.Reading.{listLength, firstImproper, improperIn, readingIn, Readable}
+use Rattle.reader.specs.Reading.{listLength, firstImproper, improperIn, readingIn, delivered, Readable}
 use Rattle.reader.proofs.Lengths.{length-next}
 
 -- ---- refusal 8
@@ -143,3 +142,11 @@ module _ (sig img out₀ final : List ℕ) (st : State) (at n : ℕ) (out : List
           whole = append-assoc (w .first) (k ∷ b) (reading (v .rest .placed) img) ∙ ap (λ (L : List Placed). w .first ++ reading L img) (sym (v .split)) ∙ w .whole;
           sum = omega (arith, w .sum, length-next sig at h, size-is);
         }
+
+-- ---- both: q is what the check found, q′ what it is to find
+
+pub keeps : {q q′ : Checked} {p : ℕ} (list out : List ℕ) → q ≡ q′ → q ≡ K.Improper p → (q ≡ q′) × (out ≡ delivered q′ list out)
+keeps list out e f = (e, ap (λ (x : Checked). delivered x list out) (sym f ∙ e))
+
+pub delivers : {q q′ : Checked} {o : List ℕ} (list out : List ℕ) → q ≡ q′ → q ≡ K.Proper → o ≡ list → (q ≡ q′) × (o ≡ delivered q′ list out)
+delivers list out e f g = (e, g ∙ ap (λ (x : Checked). delivered x list out) (sym f ∙ e))

@@ -39,6 +39,11 @@ abbrev pub readingIn : Plan State → List ℕ → List ℕ
 readingIn (bad r at) img = []
 readingIn (good L st) img = reading L img
 
+-- The buffer where 8 is decided: this one with the list in it, or as it was.
+abbrev pub delivered : Checked → List ℕ → List ℕ → List ℕ
+delivered K.Proper list out = list
+delivered (K.Improper at) list out = out
+
 -- An accepted signature whose images are as long as this one.
 pub record Readable (sig img : List ℕ) : Type 0 where
   pub placed : List Placed

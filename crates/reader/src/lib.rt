@@ -6,7 +6,7 @@ ghost use lib.ListN.{drop, length};
 ghost use mathlib.Core.Bool.{false};
 ghost use Rattle.carried.specs.Convention.{plan};
 ghost use Rattle.o32.specs.O32.{O32};
-ghost use Rattle.reader.specs.Reading.{Readable, improperIn, listLength, readingIn, roomFor};
+ghost use Rattle.reader.specs.Reading.{Readable, delivered, improperIn, listLength, readingIn, roomFor};
 use records::Record;
 
 // Whether a list fits a buffer, and its length.
@@ -40,7 +40,7 @@ pub fn list_length(signature: &[u8], room: usize) -> Room
 }
 
 // Refusal 8: the first kind whose word in the image is no proper promotion.
-pub fn check(signature: &[u8], image: &[u8]) -> Checked
+fn check(signature: &[u8], image: &[u8]) -> Checked
     requires { ⌜ Readable (now signature) (now image) ⌝ }
     ensures { λ r. ⌜ r ≡ improperIn (plan O32 false (now (signature .entry))) (now (image .entry)) ⌝ }
 {
@@ -62,7 +62,7 @@ pub fn check(signature: &[u8], image: &[u8]) -> Checked
 }
 
 // The kinds and the bodies that the image carries for them, into a buffer that has room.
-pub fn copy_list(signature: &[u8], image: &[u8], out: &mut [u8])
+fn copy_list(signature: &[u8], image: &[u8], out: &mut [u8])
     requires { ⌜ Readable (now signature) (now image) ⌝ }
     requires { ⌜ listLength (now signature) ≤ length (now out) ⌝ }
     ensures { λ _. ⌜ now (out .exit) ≡ readingIn (plan O32 false (now (signature .entry))) (now (image .entry)) ++ drop (listLength (now (signature .entry))) (now (out .entry)) ⌝ }
@@ -84,4 +84,19 @@ pub fn copy_list(signature: &[u8], image: &[u8], out: &mut [u8])
         at += 1;
         st = next;
     }
+}
+
+// Refusal 8, or the list into a buffer that has room: no byte is stored before 8 is decided.
+pub fn deliver(signature: &[u8], image: &[u8], out: &mut [u8]) -> Checked
+    requires { ⌜ Readable (now signature) (now image) ⌝ }
+    requires { ⌜ listLength (now signature) ≤ length (now out) ⌝ }
+    ensures { λ r. ⌜ r ≡ improperIn (plan O32 false (now (signature .entry))) (now (image .entry)) ⌝ }
+    ensures { λ _. ⌜ now (out .exit) ≡ delivered (improperIn (plan O32 false (now (signature .entry))) (now (image .entry))) (readingIn (plan O32 false (now (signature .entry))) (now (image .entry)) ++ drop (listLength (now (signature .entry))) (now (out .entry))) (now (out .entry)) ⌝ }
+{
+    let checked = check(signature, image);
+    let Checked::Proper = checked else {
+        return checked;
+    };
+    copy_list(signature, image, out);
+    checked
 }

@@ -16,12 +16,13 @@ use Rattle.o32.specs.declared.State.{State}
 use Rattle.records.specs.declared.Record.{Record}
 use Rattle.records.specs.declared.Record.the-variants as R
 use Rattle.o32.specs.Kinds.{kindOf, is, classNumber}
-use Rattle.o32.specs.Offsets.{width, up, offset, ending}
+use Rattle.words.specs.Words.{up}
+use Rattle.o32.specs.Offsets.{width, offset, ending}
 use Rattle.o32.specs.O32.{O32, register, misplaced, full, onward, stepped}
 use Rattle.records.specs.Records.{Alignment, recordOf}
 use Rattle.placement.proofs.KindFacts.{kind-sound}
 use Rattle.placement.proofs.Steps.{onward-grows}
-use Rattle.placement.proofs.Laws.{up-ge, up-le}
+use Rattle.placement.proofs.Laws.{up-le}
 
 pub same-class : (a b : Class) (x y : ℕ) → x ≡ classNumber a → y ≡ classNumber b → eqb x y ≡ eqb (classNumber a) (classNumber b)
 same-class a b x y e f = ap₂ eqb e f

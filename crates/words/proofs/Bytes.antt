@@ -5,11 +5,11 @@ use mathlib.Core.List.{List, [], _∷_, _++_, append-assoc, append-nil}
 use mathlib.Core.Bool.{Bool, true, false, _&&_}
 use Prim.Native.Nat.{ℕ, zero, suc, _+_, _-_, _*_, _/_, _%_, _^_, _<_}
 use native.Mathlib.Omega.{arith}
-use native.Mathlib.Numerals.{add-one}
+use native.Mathlib.Numerals.{add-one, add-two, add-three}
 use native.Mathlib.Nat.{add-zero, add-suc, zero-add, mul-assoc, mul-comm, mul-sub, pow-succ', one-le-pow, div-one, div-eq-of-lt, div-add-mod', div-div-eq-div-mul, div-lt-iff-lt-mul, add-mul-div-right}
 use lib.Pow.{pow-add}
-use lib.ListN.{length, getD, take, drop, replicate, length-append, replicate-append-replicate}
-use lib.Seq.{take-at, drop-at}
+use lib.ListN.{length, getD, set, take, drop, replicate, length-append, replicate-append-replicate}
+use lib.Seq.{sets, take-at, drop-at}
 use lib.Dec.{T, eqb, ltb, eqb→eq, eqb-refl, ltb→lt, lt→ltb}
 use Rattle.words.specs.Words.{bytesOf, same}
 
@@ -124,3 +124,11 @@ same-eqb n x y h k =
     same-test (same (bytesOf n x) (bytesOf n y)) (eqb x y)
     (λ t. rw (bytes-injective n x y h k (same→eq (bytesOf n x) (bytesOf n y) t)) (eqb-refl y))
     (λ t. rw (eqb→eq x y t) (same-refl (bytesOf n y)))
+
+-- a word taken apart: four stores in a row
+pub four-stores : (out : List ℕ) (at w : ℕ) → w < 4294967296
+    → set (set (set (set out at (w / 16777216)) (at + 1) (w / 65536 % 256)) (at + 2) (w / 256 % 256)) (at + 3) (w % 256) ≡ sets out at (bytesOf 4 w)
+four-stores out at w h =
+    let a : w / 256 / 256 / 256 % 256 ≡ w / 16777216 = omega arith in
+    let b : w / 256 / 256 ≡ w / 65536 = omega arith in
+    rw (a, b, add-one, add-two, add-three)

@@ -1,9 +1,13 @@
--- Numbers as bytes, and placement rule 1: how bytes and halfwords become words.
+-- Numbers rounded up, numbers as bytes, and placement rule 1: how bytes and halfwords become words.
 use mathlib.Core.List.{List, [], _∷_, _++_}
 use mathlib.Core.Bool.{Bool, true, false, cond, _&&_}
-use Prim.Native.Nat.{ℕ, zero, suc, _-_, _/_, _%_}
+use Prim.Native.Nat.{ℕ, zero, suc, _+_, _-_, _*_, _/_, _%_}
 use lib.ListN.{length, getD, drop, replicate}
 use lib.Dec.{eqb, ltb}
+
+-- The next multiple of a, from n on: n "rounded up to" a. (0 where a is 0.)
+abbrev pub up : ℕ → ℕ → ℕ
+up a n = (n + (a - 1)) / a * a
 
 -- "Numbers are big-endian": the n bytes of a number, the highest first.
 abbrev pub bytesOf : ℕ → ℕ → List ℕ

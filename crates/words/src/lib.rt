@@ -1,5 +1,8 @@
-// Placement rule 1: bytes and halfwords become words, through signed types.
+// Words and their bytes. Placement rule 1: bytes and halfwords become words, through signed types.
 ghost use mathlib.Core.Path.{_≡_};
+ghost use Prim.Native.Nat.{_+_, _≤_};
+ghost use lib.ListN.{length};
+ghost use lib.Seq.{sets};
 ghost use mir.Syntax.{w16, w32, w8};
 ghost use mir.Val.{ofZ, toZ};
 ghost use Rattle.words.specs.Words.{bytesOf, promote, proper, toWord};
@@ -67,4 +70,15 @@ pub fn is_promoted_halfword(w: u32, signed: bool) -> bool
     ensures { λ r. ⌜ r ≡ proper (toWord signed 2) 2 (bytesOf 4 w) ⌝ }
 {
     promote_halfword((w % 65536) as u16, signed) == w
+}
+
+// A word big-endian at a place.
+pub fn write_word(out: &mut [u8], at: usize, w: u32)
+    requires { ⌜ at + 4 ≤ length (now out) ⌝ }
+    ensures { λ _. ⌜ now (out .exit) ≡ sets (now (out .entry)) at (bytesOf 4 w) ⌝ }
+{
+    out[at] = (w / 16777216) as u8;
+    out[at + 1] = (w / 65536 % 256) as u8;
+    out[at + 2] = (w / 256 % 256) as u8;
+    out[at + 3] = (w % 256) as u8;
 }

@@ -2,7 +2,6 @@
 -- Assumes nothing.
 use mathlib.Core.Path.{sym, _∙_}
 use mathlib.Core.Bool.{false}
-use native.Mathlib.Omega.{arith}
 use Rattle.call.proofs.Writing.{end-in-bounds}
 use Rattle.call.proofs.Reading.{readable, read-refused, read-wrong, read-short, read-room, read-improper, read-done}
 use borrow.Author.Needs.{needs}
@@ -48,8 +47,8 @@ reply-requires-2 c κs = search needs
 returns-3 : tie.Need-returns-3
 returns-3 c = let r = read-short (c .before .before .before .before .before .before .before .before .before .before .before .before .before .args .signature .now) (c .before .before .before .before .before .before .before .before .before .before .before .before .before .args .image .now) (c .before .before .before .before .before .before .before .before .before .before .before .before .before .args .out .now) (readable (c .before .before .before .before .before .before .before .before .before .before .before .before .before .args .signature .now) (c .before .before .before .before .before .before .before .before .before .before .before .before .before .args .image .now) _ (c .before .before .before .before .before .before .before .found .given .0 .1 .0) (c .before .before .before .before .before .image-length .result) (sym (c .before .before .before .before .before .before .before .found .given .1) ∙ c .before .before .before .before .before .before .before .before .before .measure-signature .ensures) (c .before .before .before .before .before .image-length .ensures) (c .before .before .before .before .if1 .left)) (sym (c .before .enum-told2 .given .1) ∙ c .before .before .before .list-length .ensures) in (c .reply2 .ensures ∙ r .answer, r .buffer)
 
-check-requires : tie.Need-check-requires
-check-requires c κs = (readable (c .before .before .before .before .before .before .before .before .before .before .before .before .before .args .signature .now) (c .before .before .before .before .before .before .before .before .before .before .before .before .before .args .image .now) _ (c .before .before .before .before .before .before .before .found .given .0 .1 .0) (c .before .before .before .before .before .image-length .result) (sym (c .before .before .before .before .before .before .before .found .given .1) ∙ c .before .before .before .before .before .before .before .before .before .measure-signature .ensures) (c .before .before .before .before .before .image-length .ensures) (c .before .before .before .before .if1 .left))
+deliver-requires : tie.Need-deliver-requires
+deliver-requires c κs = ((readable (c .before .before .before .before .before .before .before .before .before .before .before .before .before .before .args .signature .now) (c .before .before .before .before .before .before .before .before .before .before .before .before .before .before .args .image .now) _ (c .before .before .before .before .before .before .before .before .found .given .0 .1 .0) (c .before .before .before .before .before .before .image-length .result) (sym (c .before .before .before .before .before .before .before .before .found .given .1) ∙ c .before .before .before .before .before .before .before .before .before .before .measure-signature .ensures) (c .before .before .before .before .before .before .image-length .ensures) (c .before .before .before .before .before .if1 .left)), read-room (c .before .before .before .before .before .before .before .before .before .before .before .before .before .before .args .signature .now) (c .before .before .before .before .before .before .before .before .before .before .before .before .before .before .args .image .now) (c .before .before .before .before .before .before .before .before .before .before .before .before .before .before .args .out .now) (readable (c .before .before .before .before .before .before .before .before .before .before .before .before .before .before .args .signature .now) (c .before .before .before .before .before .before .before .before .before .before .before .before .before .before .args .image .now) _ (c .before .before .before .before .before .before .before .before .found .given .0 .1 .0) (c .before .before .before .before .before .before .image-length .result) (sym (c .before .before .before .before .before .before .before .before .found .given .1) ∙ c .before .before .before .before .before .before .before .before .before .before .measure-signature .ensures) (c .before .before .before .before .before .before .image-length .ensures) (c .before .before .before .before .before .if1 .left)) (c .before .before .room .given .0 .0) (sym (c .before .before .room .given .1) ∙ c .before .before .before .before .list-length .ensures))
 
 enum-told-3 : tie.Need-enum-told-3
 enum-told-3 c = search needs
@@ -60,20 +59,20 @@ enum-told-4 c = search needs
 improper-requires : tie.Need-improper-requires
 improper-requires c κs = search needs
 
-returns-4 : tie.Need-returns-4
-returns-4 c = let r = read-improper (c .before .before .before .before .before .before .before .before .before .before .before .before .before .before .before .before .before .args .signature .now) (c .before .before .before .before .before .before .before .before .before .before .before .before .before .before .before .before .before .args .image .now) (c .before .before .before .before .before .before .before .before .before .before .before .before .before .before .before .before .before .args .out .now) (readable (c .before .before .before .before .before .before .before .before .before .before .before .before .before .before .before .before .before .args .signature .now) (c .before .before .before .before .before .before .before .before .before .before .before .before .before .before .before .before .before .args .image .now) _ (c .before .before .before .before .before .before .before .before .before .before .before .found .given .0 .1 .0) (c .before .before .before .before .before .before .before .before .before .image-length .result) (sym (c .before .before .before .before .before .before .before .before .before .before .before .found .given .1) ∙ c .before .before .before .before .before .before .before .before .before .before .before .before .before .measure-signature .ensures) (c .before .before .before .before .before .before .before .before .before .image-length .ensures) (c .before .before .before .before .before .before .before .before .if1 .left)) (c .before .before .before .before .before .room .given .0 .0) (sym (c .before .before .before .before .before .room .given .1) ∙ c .before .before .before .before .before .before .before .list-length .ensures) (c .before .before .before .check .result) _ (c .improper .result) (c .before .before .before .check .ensures) (c .before .enum-told4 .given .1) (c .improper .ensures _ (c .before .enum-told4 .given .1)) in (r .answer, r .buffer)
+same-length : tie.Need-same-length
+same-length c = search needs
 
-copy-list-requires : tie.Need-copy-list-requires
-copy-list-requires c κs = ((readable (c .before .before .before .before .before .before .before .before .before .before .before .before .before .before .before .before .before .args .signature .now) (c .before .before .before .before .before .before .before .before .before .before .before .before .before .before .before .before .before .args .image .now) _ (c .before .before .before .before .before .before .before .before .before .before .before .found .given .0 .1 .0) (c .before .before .before .before .before .before .before .before .before .image-length .result) (sym (c .before .before .before .before .before .before .before .before .before .before .before .found .given .1) ∙ c .before .before .before .before .before .before .before .before .before .before .before .before .before .measure-signature .ensures) (c .before .before .before .before .before .before .before .before .before .image-length .ensures) (c .before .before .before .before .before .before .before .before .if1 .left)), read-room (c .before .before .before .before .before .before .before .before .before .before .before .before .before .before .before .before .before .args .signature .now) (c .before .before .before .before .before .before .before .before .before .before .before .before .before .before .before .before .before .args .image .now) (c .before .before .before .before .before .before .before .before .before .before .before .before .before .before .before .before .before .args .out .now) (readable (c .before .before .before .before .before .before .before .before .before .before .before .before .before .before .before .before .before .args .signature .now) (c .before .before .before .before .before .before .before .before .before .before .before .before .before .before .before .before .before .args .image .now) _ (c .before .before .before .before .before .before .before .before .before .before .before .found .given .0 .1 .0) (c .before .before .before .before .before .before .before .before .before .image-length .result) (sym (c .before .before .before .before .before .before .before .before .before .before .before .found .given .1) ∙ c .before .before .before .before .before .before .before .before .before .before .before .before .before .measure-signature .ensures) (c .before .before .before .before .before .before .before .before .before .image-length .ensures) (c .before .before .before .before .before .before .before .before .if1 .left)) (c .before .before .before .before .before .room .given .0 .0) (sym (c .before .before .before .before .before .room .given .1) ∙ c .before .before .before .before .before .before .before .list-length .ensures))
+returns-4 : tie.Need-returns-4
+returns-4 c = let r = read-improper (c .before .before .before .before .before .before .before .before .before .before .before .before .before .before .before .before .before .before .before .before .args .signature .now) (c .before .before .before .before .before .before .before .before .before .before .before .before .before .before .before .before .before .before .before .before .args .image .now) (c .before .before .before .before .before .before .before .before .before .before .before .before .before .before .before .before .before .before .before .before .args .out .now) (readable (c .before .before .before .before .before .before .before .before .before .before .before .before .before .before .before .before .before .before .before .before .args .signature .now) (c .before .before .before .before .before .before .before .before .before .before .before .before .before .before .before .before .before .before .before .before .args .image .now) _ (c .before .before .before .before .before .before .before .before .before .before .before .before .before .before .found .given .0 .1 .0) (c .before .before .before .before .before .before .before .before .before .before .before .before .image-length .result) (sym (c .before .before .before .before .before .before .before .before .before .before .before .before .before .before .found .given .1) ∙ c .before .before .before .before .before .before .before .before .before .before .before .before .before .before .before .before .measure-signature .ensures) (c .before .before .before .before .before .before .before .before .before .before .before .before .image-length .ensures) (c .before .before .before .before .before .before .before .before .before .before .before .if1 .left)) (c .before .before .before .before .before .before .before .before .room .given .0 .0) (sym (c .before .before .before .before .before .before .before .before .room .given .1) ∙ c .before .before .before .before .before .before .before .before .before .before .list-length .ensures) (c .before .before .before .before .before .deliver .result) _ (c .improper .result) _ (c .before .before .before .before .before .deliver .ensures .0) (c .before .before .before .before .before .deliver .ensures .1) (c .before .enum-told4 .given .1) (c .improper .ensures _ (c .before .enum-told4 .given .1)) in (r .answer, r .buffer)
 
 reply-requires-3 : tie.Need-reply-requires-3
 reply-requires-3 c κs = search needs
 
-same-length : tie.Need-same-length
-same-length c = search needs
+same-length-2 : tie.Need-same-length-2
+same-length-2 c = search needs
 
 returns-5 : tie.Need-returns-5
-returns-5 c = let r = read-done (c .before .before .before .before .before .before .before .before .before .before .before .before .before .before .before .before .before .before .before .before .before .args .signature .now) (c .before .before .before .before .before .before .before .before .before .before .before .before .before .before .before .before .before .before .before .before .before .args .image .now) (c .before .before .before .before .before .before .before .before .before .before .before .before .before .before .before .before .before .before .before .before .before .args .out .now) (readable (c .before .before .before .before .before .before .before .before .before .before .before .before .before .before .before .before .before .before .before .before .before .args .signature .now) (c .before .before .before .before .before .before .before .before .before .before .before .before .before .before .before .before .before .before .before .before .before .args .image .now) _ (c .before .before .before .before .before .before .before .before .before .before .before .before .before .before .before .found .given .0 .1 .0) (c .before .before .before .before .before .before .before .before .before .before .before .before .before .image-length .result) (sym (c .before .before .before .before .before .before .before .before .before .before .before .before .before .before .before .found .given .1) ∙ c .before .before .before .before .before .before .before .before .before .before .before .before .before .before .before .before .before .measure-signature .ensures) (c .before .before .before .before .before .before .before .before .before .before .before .before .before .image-length .ensures) (c .before .before .before .before .before .before .before .before .before .before .before .before .if1 .left)) (c .before .before .before .before .before .before .before .before .before .room .given .0 .0) (sym (c .before .before .before .before .before .before .before .before .before .room .given .1) ∙ c .before .before .before .before .before .before .before .before .before .before .before .list-length .ensures) (c .before .before .before .before .before .before .before .check .result) _ (c .before .before .before .before .before .before .before .check .ensures) (c .before .before .before .before .before .enum-told3 .given .1) (c .before .before .before .copy-list .ensures) in (c .reply3 .ensures ∙ r .answer, r .buffer)
+returns-5 c = let r = read-done (c .before .before .before .before .before .before .before .before .before .before .before .before .before .before .before .before .before .before .before .before .args .signature .now) (c .before .before .before .before .before .before .before .before .before .before .before .before .before .before .before .before .before .before .before .before .args .image .now) (c .before .before .before .before .before .before .before .before .before .before .before .before .before .before .before .before .before .before .before .before .args .out .now) (readable (c .before .before .before .before .before .before .before .before .before .before .before .before .before .before .before .before .before .before .before .before .args .signature .now) (c .before .before .before .before .before .before .before .before .before .before .before .before .before .before .before .before .before .before .before .before .args .image .now) _ (c .before .before .before .before .before .before .before .before .before .before .before .before .before .before .found .given .0 .1 .0) (c .before .before .before .before .before .before .before .before .before .before .before .before .image-length .result) (sym (c .before .before .before .before .before .before .before .before .before .before .before .before .before .before .found .given .1) ∙ c .before .before .before .before .before .before .before .before .before .before .before .before .before .before .before .before .measure-signature .ensures) (c .before .before .before .before .before .before .before .before .before .before .before .before .image-length .ensures) (c .before .before .before .before .before .before .before .before .before .before .before .if1 .left)) (c .before .before .before .before .before .before .before .before .room .given .0 .0) (sym (c .before .before .before .before .before .before .before .before .room .given .1) ∙ c .before .before .before .before .before .before .before .before .before .before .list-length .ensures) (c .before .before .before .before .before .deliver .result) _ (c .before .before .before .before .before .deliver .ensures .0) (c .before .before .before .before .before .deliver .ensures .1) (c .before .enum-told3 .given .1) in (c .reply3 .ensures ∙ r .answer, r .buffer)
 
 pub read-spec : {M : Type 1} → statement M
 read-spec =
@@ -92,12 +91,12 @@ read-spec =
     enum-told-2
     reply-requires-2
     returns-3
-    check-requires
+    deliver-requires
     enum-told-3
     enum-told-4
     improper-requires
-    returns-4
-    copy-list-requires
-    reply-requires-3
     same-length
+    returns-4
+    reply-requires-3
+    same-length-2
     returns-5)

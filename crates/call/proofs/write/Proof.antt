@@ -30,16 +30,10 @@ reply-requires : tie.Need-reply-requires
 reply-requires c κs = search needs
 
 returns-2 : tie.Need-returns-2
-returns-2 c = let r = write-short (c .before .before .before .before .before .before .before .before .before .args .list .now) (c .before .before .before .before .before .before .before .before .before .args .out .now) (c .before .before .image-length .result) (fillable (c .before .before .before .before .before .before .before .before .before .args .list .now) _ (c .before .before .before .before .found .given .0 .1 .0) (c .before .before .image-length .result) (sym (c .before .before .before .before .found .given .1) ∙ c .before .before .before .before .before .before .measure-list .ensures) (c .before .before .image-length .ensures)) (omega arith) in (c .reply .ensures ∙ r .answer, r .buffer)
+returns-2 c = let r = write-short (c .before .before .before .before .before .before .before .before .before .args .list .now) (c .before .before .before .before .before .before .before .before .before .args .out .now) (c .before .before .image-length .result) (fillable (c .before .before .before .before .before .before .before .before .before .args .list .now) _ (c .before .before .before .before .found .given .0 .1 .0) (c .before .before .image-length .result) (sym (c .before .before .before .before .found .given .1) ∙ c .before .before .before .before .before .before .measure-list .ensures) (c .before .before .image-length .ensures)) (c .before .if1 .taken) in (c .reply .ensures ∙ r .answer, r .buffer)
 
-clear-requires : tie.Need-clear-requires
-clear-requires c κs = search needs
-
-fill-requires : tie.Need-fill-requires
-fill-requires c κs = (fillable (c .before .before .before .before .before .before .before .before .before .before .before .before .before .args .list .now) _ (c .before .before .before .before .before .before .before .before .found .given .0 .1 .0) (c .before .before .before .before .before .before .image-length .result) (sym (c .before .before .before .before .before .before .before .before .found .given .1) ∙ c .before .before .before .before .before .before .before .before .before .before .measure-list .ensures) (c .before .before .before .before .before .before .image-length .ensures), omega arith)
-
-write-block-requires : tie.Need-write-block-requires
-write-block-requires c κs = search needs
+lay-requires : tie.Need-lay-requires
+lay-requires c κs = (fillable (c .before .before .before .before .before .before .before .before .before .args .list .now) _ (c .before .before .before .before .found .given .0 .1 .0) (c .before .before .image-length .result) (sym (c .before .before .before .before .found .given .1) ∙ c .before .before .before .before .before .before .measure-list .ensures) (c .before .before .image-length .ensures), omega arith)
 
 reply-requires-2 : tie.Need-reply-requires-2
 reply-requires-2 c κs = search needs
@@ -48,7 +42,7 @@ same-length : tie.Need-same-length
 same-length c = search needs
 
 returns-3 : tie.Need-returns-3
-returns-3 c = let r = write-done (c .before .before .before .before .before .before .before .before .before .before .before .before .before .before .before .before .before .before .before .before .before .args .list .now) (c .before .before .before .before .before .before .before .before .before .before .before .before .before .before .before .before .before .before .before .before .before .args .out .now) (c .before .before .before .before .before .before .before .before .before .before .before .before .before .before .image-length .result) (fillable (c .before .before .before .before .before .before .before .before .before .before .before .before .before .before .before .before .before .before .before .before .before .args .list .now) _ (c .before .before .before .before .before .before .before .before .before .before .before .before .before .before .before .before .found .given .0 .1 .0) (c .before .before .before .before .before .before .before .before .before .before .before .before .before .before .image-length .result) (sym (c .before .before .before .before .before .before .before .before .before .before .before .before .before .before .before .before .found .given .1) ∙ c .before .before .before .before .before .before .before .before .before .before .before .before .before .before .before .before .before .before .measure-list .ensures) (c .before .before .before .before .before .before .before .before .before .before .before .before .before .before .image-length .ensures)) _ _ _ (omega arith) (c .before .before .before .before .before .before .before .before .before .before .before .clear .ensures) (c .before .before .before .before .before .before .before .fill .ensures) (c .before .before .before .write-block .ensures) in (c .reply2 .ensures ∙ r .answer, r .buffer)
+returns-3 c = let r = write-done (c .before .before .before .before .before .before .before .before .before .before .before .before .before .args .list .now) (c .before .before .before .before .before .before .before .before .before .before .before .before .before .args .out .now) (c .before .before .before .before .before .before .image-length .result) (fillable (c .before .before .before .before .before .before .before .before .before .before .before .before .before .args .list .now) _ (c .before .before .before .before .before .before .before .before .found .given .0 .1 .0) (c .before .before .before .before .before .before .image-length .result) (sym (c .before .before .before .before .before .before .before .before .found .given .1) ∙ c .before .before .before .before .before .before .before .before .before .before .measure-list .ensures) (c .before .before .before .before .before .before .image-length .ensures)) _ (omega arith) (c .before .before .before .lay .ensures) in (c .reply2 .ensures ∙ r .answer, r .buffer)
 
 pub write-spec : {M : Type 1} → statement M
 write-spec =
@@ -62,9 +56,7 @@ write-spec =
     image-length-requires
     reply-requires
     returns-2
-    clear-requires
-    fill-requires
-    write-block-requires
+    lay-requires
     reply-requires-2
     same-length
     returns-3)

@@ -12,8 +12,9 @@ use borrow.Author.Tests.{ltb-false}
 use Rattle.carried.specs.Convention.{write}
 use Rattle.carried.specs.Image as C
 use Rattle.o32.specs.O32.{O32}
-use Rattle.call.specs.Answers.{answerOf, within, writeInto}
-use Rattle.call.specs.declared.Answer.{Answer}
+use Rattle.answers.specs.declared.Answer.{Answer}
+use Rattle.answers.specs.Answers.{answerOf, within}
+use Rattle.call.specs.Answers.{writeInto}
 use borrow.Author.Needs.{needs}
 use Rattle.image.proofs.main.Statement.{statement}
 use Rattle.image.proofs.main.Tie as tie
@@ -24,7 +25,7 @@ by-test true room image h = omega arith
 by-test false room image h = h refl
 
 -- What the writer answers lies within the buffer.
-within-room : (room : ℕ) (found : C.Answer) → answerOf (within room found) .length ≤ room
+within-room : (room : ℕ) (found : C.Answer) → answerOf (within 7 room found) .length ≤ room
 within-room room (C.refused number place) = omega arith
 within-room room (C.done image) = by-test (ltb room (length image)) room image (ltb-false room (length image))
 

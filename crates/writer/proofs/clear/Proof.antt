@@ -3,9 +3,9 @@
 use Prim.Native.Nat.{_-_}
 use native.Mathlib.Omega.{arith}
 use borrow.Author.Needs.{needs}
-use Rattle.call.proofs.Writing.{Clearing, clear-starts, clear-turn, clear-ends}
-use Rattle.call.proofs.clear.Statement.{statement}
-use Rattle.call.proofs.clear.Tie as tie
+use Rattle.writer.proofs.Clearing.{Clearing, clear-starts, clear-turn, clear-ends}
+use Rattle.writer.proofs.clear.Statement.{statement}
+use Rattle.writer.proofs.clear.Tie as tie
 
 abbrev Inv-loop : tie.InvT-loop
 Inv-loop out₀ n i₀ out i = Clearing out₀ n out i

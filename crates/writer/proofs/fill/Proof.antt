@@ -9,10 +9,10 @@ use borrow.Author.Needs.{needs}
 use Rattle.carried.specs.Convention.{plan}
 use Rattle.o32.specs.O32.{O32}
 use Rattle.block.specs.Block.{whole}
-use Rattle.call.specs.Filling.{filled}
-use Rattle.call.proofs.Filling.{Filling, fill-starts, fill-ends, fill-within, fill-fits, fill-less, fill-fit, fill-turn, never-refused}
-use Rattle.call.proofs.fill.Statement.{statement}
-use Rattle.call.proofs.fill.Tie as tie
+use Rattle.writer.specs.Filling.{filled}
+use Rattle.writer.proofs.Filling.{Filling, fill-starts, fill-ends, fill-within, fill-fits, fill-less, fill-fit, fill-turn, never-refused}
+use Rattle.writer.proofs.fill.Statement.{statement}
+use Rattle.writer.proofs.fill.Tie as tie
 
 abbrev Inv-loop : tie.InvT-loop
 Inv-loop list out₀ n block₀ st₀ at₀ out block st at =

@@ -1,9 +1,9 @@
 -- The writer's second pass: what it starts from, and what it leaves.
 use mathlib.Core.Path.{_≡_}
-use mathlib.Core.List.{List}
+use mathlib.Core.List.{List, []}
 use mathlib.Core.Bool.{true}
 use Prim.Native.Nat.{ℕ, _+_}
-use Rattle.carried.specs.Image.{put, Placed, carried, promotedBytes}
+use Rattle.carried.specs.Image.{put, Placed, carried, promotedBytes, image}
 use Rattle.carried.specs.Convention.{Plan, bad, good, plan}
 use Rattle.o32.specs.declared.State.{State}
 use Rattle.o32.specs.O32.{O32, area}
@@ -19,3 +19,8 @@ pub record Fillable (list : List ℕ) (n : ℕ) : Type 0 where
 abbrev pub filled : Plan State → List ℕ → List ℕ → List ℕ
 filled (bad r at) list img = img
 filled (good L st) list img = put img (carried L) (promotedBytes L list)
+
+-- The image of a list, so many bytes long.
+abbrev pub imageIn : Plan State → List ℕ → ℕ → List ℕ
+imageIn (bad r at) list n = []
+imageIn (good L st) list n = image n L list

@@ -22,7 +22,7 @@ use Rattle.records.specs.Records.{recordOf}
 use Rattle.block.specs.Block.{Fit}
 use Rattle.block.proofs.Ahead as A
 use Rattle.block.proofs.Ahead.{Ahead, ahead-starts, ahead-ends, ahead-within, ahead-sized, ahead-fit, Behind, ahead-turn}
-use Rattle.call.specs.Filling.{Fillable, filled}
+use Rattle.writer.specs.Filling.{Fillable, filled}
 
 pub record Filling (list : List ℕ) (n : ℕ) (final : List ℕ) (st : State) (at : ℕ) (img : List ℕ) : Type 0 where
   pub ahead : Ahead true list n st at

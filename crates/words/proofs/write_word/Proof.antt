@@ -1,12 +1,12 @@
--- `block::write_word` meets its contract: its four stores are those of the word's bytes.
+-- `write_word` meets its contract: its four stores are those of the word's bytes.
 -- Assumes nothing.
 use denote.Ref.{now}
 use native.Mathlib.Omega.{arith}
 use lib.ListN.{length-set}
-use Rattle.block.proofs.WordBytes.{four-stores}
+use Rattle.words.proofs.Bytes.{four-stores}
 use borrow.Author.Needs.{needs}
-use Rattle.block.proofs.write_word.Statement.{statement}
-use Rattle.block.proofs.write_word.Tie as tie
+use Rattle.words.proofs.write_word.Statement.{statement}
+use Rattle.words.proofs.write_word.Tie as tie
 
 cast-out : tie.Need-cast-out
 cast-out c = search needs

@@ -1,0 +1,23 @@
+-- What the functions with a lent buffer answer, and what they leave in it ("Refusal numbers").
+use mathlib.Core.List.{List, _++_}
+use mathlib.Core.Bool.{cond}
+use Prim.Native.Nat.{ℕ}
+use lib.ListN.{length, drop}
+use lib.Dec.{ltb}
+use Rattle.carried.specs.Image as C
+use Rattle.answers.specs.declared.Answer.{Answer}
+
+-- Refusal 7, "output buffer shorter than the result", or 13, "code buffer too short": this number, at no place.
+abbrev pub within : ℕ → ℕ → C.Answer → C.Answer
+within number room (C.refused r at) = C.refused r at
+within number room (C.done x) = cond (ltb room (length x)) (C.refused number 0) (C.done x)
+
+-- "A refusal returns its number, its place .., length 0"; "Success returns 0, place 0 and the exact length."
+abbrev pub answerOf : C.Answer → Answer
+answerOf (C.refused r at) = record { refusal = r; place = at; length = 0 }
+answerOf (C.done x) = record { refusal = 0; place = 0; length = length x }
+
+-- On a refusal "the output buffer keeps its bytes"; on success "output bytes beyond it keep their content".
+abbrev pub bufferOf : C.Answer → List ℕ → List ℕ
+bufferOf (C.refused r at) out = out
+bufferOf (C.done x) out = x ++ drop (length x) out

@@ -1,0 +1,59 @@
+// The passes of the writer over a list that was accepted: zeros in the area, each argument at its place, the registers last.
+ghost use mathlib.Core.List.{_++_};
+ghost use mathlib.Core.Bool.{true};
+ghost use mathlib.Core.Path.{_≡_};
+ghost use Prim.Native.Nat.{_-_, _≤_};
+ghost use lib.ListN.{drop, length, replicate};
+ghost use Rattle.carried.specs.Convention.{plan};
+ghost use Rattle.o32.specs.O32.{O32};
+ghost use Rattle.block.specs.Block.{whole};
+ghost use Rattle.writer.specs.Filling.{Fillable, filled, imageIn};
+use records::Record;
+
+// Zero in the area of an image of n bytes.
+fn clear(out: &mut [u8], n: usize)
+    requires { ⌜ (32 ≤ n) × (n ≤ length (now out)) ⌝ }
+    ensures { λ _. ⌜ drop 32 (now (out .exit)) ≡ replicate (n - 32) 0 ++ drop n (now (out .entry)) ⌝ }
+{
+    let mut i = 32;
+    while i < n {
+        out[i] = 0;
+        i += 1;
+    }
+}
+
+// The arguments of a list that was accepted, each at its place: in the register block that is answered, and in the area.
+fn fill(list: &[u8], out: &mut [u8], n: usize) -> [u32; 8]
+    requires { ⌜ Fillable (now list) n ⌝ }
+    requires { ⌜ n ≤ length (now out) ⌝ }
+    ensures { λ r. ⌜ whole r (now (out .exit)) ≡ filled (plan O32 true (now (list .entry))) (now (list .entry)) (whole (replicate 8 0) (now (out .entry))) ⌝ }
+{
+    let mut block = [0u32; 8];
+    let mut st = records::start();
+    let mut at = 0;
+    while at < list.len() {
+        let left = list.len() - (at + 1);
+        let answer = records::take(st, list[at], true, left);
+        let Record::Taken { placement, next } = answer else {
+            return block;
+        };
+        let body = at + 1;
+        let changed = block::put_argument(block, out, placement, list, body);
+        block = changed;
+        let kind = placement.kind;
+        at = body + kind.size;
+        st = next;
+    }
+    block
+}
+
+// The image of a list, n bytes long, into a buffer that has room.
+pub fn lay(list: &[u8], out: &mut [u8], n: usize)
+    requires { ⌜ Fillable (now list) n ⌝ }
+    requires { ⌜ n ≤ length (now out) ⌝ }
+    ensures { λ _. ⌜ now (out .exit) ≡ imageIn (plan O32 true (now (list .entry))) (now (list .entry)) n ++ drop n (now (out .entry)) ⌝ }
+{
+    clear(out, n);
+    let block = fill(list, out, n);
+    block::write_block(block, out);
+}
