@@ -14,7 +14,7 @@ use Rattle.o32.specs.declared.Placement.{Placement}
 use Rattle.o32.specs.Kinds.{is, classNumber}
 use Rattle.o32.specs.Offsets.{extension, width}
 use Rattle.o32.specs.O32.{run, floatBytes, carrier, carriers}
-use Rattle.block.specs.Block.{Fit}
+use Rattle.placement.specs.Fitting.{Fit}
 
 -- ---- what a kind's class says of its bytes
 

@@ -9,7 +9,8 @@ use lib.ListN.{length, set, take, drop, length-set}
 use Rattle.words.specs.Words.{bytesOf}
 use Rattle.carried.specs.Image.{put}
 use Rattle.o32.specs.O32.{run, floatBytes}
-use Rattle.block.specs.Block.{blockBytes, whole, Floating}
+use Rattle.block.specs.Block.{blockBytes, whole}
+use Rattle.placement.specs.Fitting.{Floating}
 use Rattle.block.proofs.Stores.{run-add, store-behind}
 use Rattle.block.proofs.Image.{word-stored, whole-low}
 

@@ -4,4 +4,3 @@ pub mod WordBytes
 pub mod Image
 pub mod Floats
 pub mod Arguments
-pub mod Ahead

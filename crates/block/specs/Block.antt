@@ -18,17 +18,3 @@ blockBytes (w ∷ ws) = bytesOf 4 w ++ blockBytes ws
 
 abbrev pub whole : List ℕ → List ℕ → List ℕ
 whole block out = blockBytes block ++ drop 32 out
-
--- A float register of rule 3 and the size of a single or double.
-pub record Floating (register size : ℕ) : Type 0 where
-  pub named : (register ≡ 12) ⊎ (register ≡ 14)
-  pub sized : (size ≡ 4) ⊎ (size ≡ 8)
-
--- A placement that fits an image of m bytes.
-pub record Fit (p : Placement) (m : ℕ) : Type 0 where
-  pub area : 48 ≤ m
-  pub inside : 32 + (p .offset + width (p .kind)) ≤ m
-  pub low : p .offset + width (p .kind) ≤ 1024
-  pub aligned : p .offset % 4 ≡ 0
-  pub promoted : is Signed (p .kind) || is Unsigned (p .kind) ≡ true → (1 ≤ p .kind .size) × (p .kind .size ≤ 2)
-  pub floating : 1 ≤ p .register → (is Float (p .kind) ≡ true) × Floating (p .register) (p .kind .size)

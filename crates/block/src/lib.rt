@@ -8,20 +8,10 @@ ghost use Rattle.words.specs.Words.{bytesOf, promote, toWord};
 ghost use Rattle.carried.specs.Image.{put};
 ghost use Rattle.o32.specs.Offsets.{extension};
 ghost use Rattle.o32.specs.O32.{carrier, carriers, floatBytes, run};
-ghost use Rattle.block.specs.Block.{Fit, Floating, blockBytes, whole};
+ghost use Rattle.block.specs.Block.{blockBytes, whole};
+ghost use Rattle.placement.specs.Fitting.{Fit, Floating};
 use o32::Class;
 use o32::Placement;
-
-// The big-endian word at a place.
-pub fn word_at(src: &[u8], at: usize) -> u32
-    requires { ⌜ at + 4 ≤ length (now src) ⌝ }
-    ensures { λ r. ⌜ bytesOf 4 r ≡ take 4 (drop at (now (src .entry))) ⌝ }
-{
-    (src[at] as u32) * 16777216
-        + (src[at + 1] as u32) * 65536
-        + (src[at + 2] as u32) * 256
-        + src[at + 3] as u32
-}
 
 // The word that the byte (size 1) or halfword (size 2) at a place becomes.
 fn promoted_at(src: &[u8], at: usize, size: usize, signed: bool) -> u32
@@ -112,9 +102,9 @@ fn put_float(block: [u32; 8], register: usize, src: &[u8], at: usize, size: usiz
 {
     let i = register - 8;
     let mut next = block;
-    next[i] = word_at(src, at);
+    next[i] = words::word_at(src, at);
     if size == 8 {
-        next[i + 1] = word_at(src, at + 4);
+        next[i + 1] = words::word_at(src, at + 4);
     }
     next
 }
@@ -162,10 +152,10 @@ pub fn put_argument(
     if register != 0 {
         return put_float(block, register, src, at, size);
     }
-    if records::is_class(Class::Signed, kind) {
+    if kinds::is_class(Class::Signed, kind) {
         return put_word(block, out, place.offset, promoted_at(src, at, size, true));
     }
-    if records::is_class(Class::Unsigned, kind) {
+    if kinds::is_class(Class::Unsigned, kind) {
         return put_word(block, out, place.offset, promoted_at(src, at, size, false));
     }
     put_plain(block, out, place.offset, src, at, size)

@@ -21,9 +21,9 @@ use Rattle.o32.specs.Kinds.{kindOf}
 use Rattle.o32.specs.O32.{O32, area}
 use Rattle.placement.proofs.Laws.{O32-laws}
 use Rattle.placement.proofs.Steps.{step-says}
-use Rattle.records.specs.declared.Measured.{Measured}
-use Rattle.records.specs.declared.Measured.the-variants as M
-use Rattle.records.specs.Records.{measured}
+use Rattle.measure.specs.declared.Measured.{Measured}
+use Rattle.measure.specs.declared.Measured.the-variants as M
+use Rattle.measure.specs.Measured.{measured}
 use Rattle.reader.specs.declared.Room.the-variants as R
 use Rattle.reader.specs.declared.Checked.{Checked}
 use Rattle.reader.specs.declared.Checked.the-variants as K

@@ -17,9 +17,9 @@ use Rattle.carried.proofs.Walks.{walked, walk-fits}
 use Rattle.o32.specs.declared.State.{State}
 use Rattle.o32.specs.O32.{O32, area}
 use Rattle.placement.proofs.Laws.{O32-laws}
-use Rattle.records.specs.declared.Measured.{Measured}
-use Rattle.records.specs.declared.Measured.the-variants as M
-use Rattle.records.specs.Records.{measured}
+use Rattle.measure.specs.declared.Measured.{Measured}
+use Rattle.measure.specs.declared.Measured.the-variants as M
+use Rattle.measure.specs.Measured.{measured}
 use Rattle.answers.specs.declared.Answer.{Answer}
 use Rattle.writer.specs.Filling.{Fillable, imageIn}
 use Rattle.answers.specs.Answers.{answerOf, bufferOf, within}

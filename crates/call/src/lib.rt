@@ -6,9 +6,9 @@ ghost use Rattle.o32.specs.O32.{area};
 ghost use Rattle.answers.specs.Answers.{answerOf, bufferOf};
 ghost use Rattle.call.specs.Answers.{readInto, writeInto};
 use answers::Answer;
+use measure::Measured;
 use reader::Checked;
 use reader::Room;
-use records::Measured;
 
 // The answer of a list or signature that is refused.
 fn refused(found: Measured) -> Answer
@@ -36,7 +36,7 @@ pub fn write(list: &[u8], out: &mut [u8]) -> Answer
     ensures answer { λ r. ⌜ r ≡ answerOf (writeInto (now (list .entry)) (length (now (out .entry)))) ⌝ }
     ensures buffer { λ _. ⌜ now (out .exit) ≡ bufferOf (writeInto (now (list .entry)) (length (now (out .entry)))) (now (out .entry)) ⌝ }
 {
-    let found = records::measure_list(list);
+    let found = measure::measure_list(list);
     let Measured::Accepted { count: _, end } = found else {
         return refused(found);
     };
@@ -64,7 +64,7 @@ pub fn read(signature: &[u8], image: &[u8], out: &mut [u8]) -> Answer
     ensures answer { λ r. ⌜ r ≡ answerOf (readInto (now (signature .entry)) (now (image .entry)) (length (now (out .entry)))) ⌝ }
     ensures buffer { λ _. ⌜ now (out .exit) ≡ bufferOf (readInto (now (signature .entry)) (now (image .entry)) (length (now (out .entry)))) (now (out .entry)) ⌝ }
 {
-    let found = records::measure_signature(signature);
+    let found = measure::measure_signature(signature);
     let Measured::Accepted { count: _, end } = found else {
         return refused(found);
     };

@@ -19,7 +19,7 @@ use Rattle.o32.specs.Kinds.{is, classNumber}
 use Rattle.o32.specs.Offsets.{extension, width}
 use Rattle.o32.specs.O32.{run, carrier, carriers}
 use Rattle.placement.proofs.Laws.{length-span, length-float}
-use Rattle.block.specs.Block.{Fit}
+use Rattle.placement.specs.Fitting.{Fit}
 use Rattle.block.proofs.Floats.{bounds, float-run}
 use Rattle.block.proofs.Arguments.{Worded, Plain, body-fits}
 use Rattle.fetch.proofs.Parts.{gather-run, gather-word, body-whole, body-part, proper-whole}

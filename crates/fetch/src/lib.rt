@@ -7,7 +7,7 @@ ghost use Rattle.words.specs.Words.{body, proper};
 ghost use Rattle.carried.specs.Image.{gather, put};
 ghost use Rattle.o32.specs.Offsets.{extension};
 ghost use Rattle.o32.specs.O32.{carrier, carriers, run};
-ghost use Rattle.block.specs.Block.{Fit};
+ghost use Rattle.placement.specs.Fitting.{Fit};
 use o32::Class;
 use o32::Placement;
 
@@ -25,13 +25,13 @@ pub fn is_proper(image: &[u8], place: Placement) -> bool
     ensures { λ r. ⌜ r ≡ proper (extension (place .kind)) (place .kind .size) (gather (now (image .entry)) (carriers place)) ⌝ }
 {
     let kind = place.kind;
-    let signed = records::is_class(Class::Signed, kind);
+    let signed = kinds::is_class(Class::Signed, kind);
     if !signed {
-        if !records::is_class(Class::Unsigned, kind) {
+        if !kinds::is_class(Class::Unsigned, kind) {
             return true;
         }
     }
-    let w = block::word_at(image, position(place.offset));
+    let w = words::word_at(image, position(place.offset));
     if kind.size == 1 {
         return words::is_promoted_byte(w, signed);
     }
@@ -71,7 +71,7 @@ pub fn get_body(image: &[u8], place: Placement, out: &mut [u8], to: usize)
         return;
     }
     let o = place.offset;
-    let width = records::width_of(kind);
+    let width = kinds::width_of(kind);
     if size < width {
         block::copy(out, to, image, position(o) + (width - size), size);
         return;

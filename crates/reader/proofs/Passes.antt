@@ -21,10 +21,10 @@ use Rattle.o32.specs.O32.{O32, carriers, run}
 use Rattle.records.specs.declared.Record.{Record}
 use Rattle.records.specs.declared.Record.the-variants as R
 use Rattle.records.specs.Records.{recordOf}
-use Rattle.block.specs.Block.{Fit}
+use Rattle.placement.specs.Fitting.{Fit}
 use Rattle.block.proofs.Stores.{put-next}
-use Rattle.block.proofs.Ahead as A
-use Rattle.block.proofs.Ahead.{Ahead, ahead-starts, ahead-ends, ahead-kind, ahead-sized, ahead-fit, Behind, ahead-turn}
+use Rattle.records.proofs.Ahead as A
+use Rattle.records.proofs.Ahead.{Ahead, ahead-starts, ahead-ends, ahead-kind, ahead-sized, ahead-fit, Behind, ahead-turn}
 use Rattle.reader.specs.declared.Checked.{Checked}
 use Rattle.reader.specs.declared.Checked.the-variants as K
 use Rattle.reader.specs.Reading.{listLength, firstImproper, improperIn, readingIn, delivered, Readable}

@@ -28,7 +28,7 @@ pub fn list_length(signature: &[u8], room: usize) -> Room
     let mut n = 0;
     let mut at = 0;
     while at < signature.len() {
-        let kind = records::kind_of(signature[at]);
+        let kind = kinds::kind_of(signature[at]);
         let record = kind.size + 1;
         if room - n < record {
             return Room::Short;

@@ -1,35 +1,28 @@
 -- What each return of the record step and of the functions under it answers, by the tests that led there.
 -- Assumes nothing.
-use mathlib.Core.Path.{_≡_, refl, sym, ap, ap₂, _∙_}
+use mathlib.Core.Path.{_≡_, refl, sym, ap, _∙_}
 use mathlib.Core.Logic.{inl, inr}
 use mathlib.Core.Bool.{Bool, true, false, cond, not, _||_, or-false}
 use Prim.Native.Nat.{ℕ, zero, suc, _+_, _*_, _/_, _≤_, _<_}
 use native.Mathlib.Omega.{arith}
 use native.Mathlib.Nat.{mul-zero}
 use lib.Dec.{eqb, leb, eqb·suc-zero, leb·suc-zero}
-use borrow.Author.Tests.{eqb-true, ne-eqb, le-leb, lt-leb, leb-false, lt-ltb, le-ltb}
+use borrow.Author.Tests.{ne-eqb, le-leb, lt-leb, leb-false, lt-ltb, le-ltb}
 use Rattle.carried.specs.Convention.{refuse, next, behind, limited, taken}
-use Rattle.o32.specs.declared.Class.{Class}
-use Rattle.o32.specs.declared.Class.the-variants.{Unknown, Marker, Pointer, Signed, Unsigned, Float}
+use Rattle.o32.specs.declared.Class.the-variants.{Unknown, Marker, Pointer, Float}
 use Rattle.o32.specs.declared.Kind.{Kind}
 use Rattle.o32.specs.declared.State.{State}
 use Rattle.records.specs.declared.Record.{Record}
 use Rattle.records.specs.declared.Record.the-variants as R
-use Rattle.o32.specs.Kinds.{kindOf, is, classNumber}
+use Rattle.o32.specs.Kinds.{kindOf, is}
 use Rattle.words.specs.Words.{up}
-use Rattle.o32.specs.Offsets.{width, offset, ending}
+use Rattle.o32.specs.Offsets.{offset, ending}
 use Rattle.o32.specs.O32.{O32, register, misplaced, full, onward, stepped}
 use Rattle.records.specs.Records.{Alignment, recordOf}
 use Rattle.placement.proofs.KindFacts.{kind-sound}
+use Rattle.kinds.proofs.Classes.{class-is}
 use Rattle.placement.proofs.Steps.{onward-grows}
 use Rattle.placement.proofs.Laws.{up-le}
-
-pub same-class : (a b : Class) (x y : ℕ) → x ≡ classNumber a → y ≡ classNumber b → eqb x y ≡ eqb (classNumber a) (classNumber b)
-same-class a b x y e f = ap₂ eqb e f
-
--- a kind has one class
-class-is : (c : Class) (k : Kind) (t : Bool) → t ≡ is c k → t ≡ true → classNumber (k .class) ≡ classNumber c
-class-is c k t e h = eqb-true (classNumber (k .class)) (classNumber c) (sym e ∙ h)
 
 -- ---- alignment
 
@@ -48,25 +41,6 @@ pub up-small : (a n : ℕ) → Alignment a → up a n ≤ n + 7
 up-small a n (inl e) = omega (arith, up-le a n)
 up-small a n (inr (inl e)) = omega (arith, up-le a n)
 up-small a n (inr (inr e)) = omega (arith, up-le a n)
-
--- ---- width
-
-module _ (k : Kind) where
-  pub width-signed : (t : Bool) → t ≡ is Signed k → t ≡ true → 4 ≡ width k
-  width-signed t e h = rw (class-is Signed k t e h)
-
-  pub width-unsigned : (t : Bool) → t ≡ is Unsigned k → t ≡ true → 4 ≡ width k
-  width-unsigned t e h = rw (class-is Unsigned k t e h)
-
-  pub width-plain : (t u : Bool) → t ≡ is Signed k → t ≡ false → u ≡ is Unsigned k → u ≡ false → k .size ≡ width k
-  width-plain t u e h f g = rw (sym e ∙ h, sym f ∙ g)
-
-  pub width-le : k .size ≤ 512 → width k ≤ 512
-  width-le h = go (is Signed k || is Unsigned k)
-    where
-      go : (t : Bool) → cond t 4 (k .size) ≤ 512
-      go true = omega arith
-      go false = h
 
 -- ---- register, misplaced, full
 

@@ -1,3 +1,3 @@
-pub mod Table
 pub mod Answers
-pub mod Measures
+pub mod Answered
+pub mod Ahead

@@ -7,8 +7,6 @@ use Rattle.o32.specs.declared.State.{State}
 use Rattle.o32.specs.declared.Placement.{Placement}
 use Rattle.records.specs.declared.Record.{Record}
 use Rattle.records.specs.declared.Record.the-variants as R
-use Rattle.records.specs.declared.Measured.{Measured}
-use Rattle.records.specs.declared.Measured.the-variants as M
 
 -- The alignments there are: 4, 8, or none.
 abbrev pub Alignment : ℕ → Type 0
@@ -18,8 +16,3 @@ Alignment a = (a ≡ 0) ⊎ (a ≡ 4) ⊎ (a ≡ 8)
 abbrev pub recordOf : Step Placement State → Record
 recordOf (refuse r) = R.Refused r
 recordOf (next p st) = R.Taken p st
-
--- The answer of a whole list or signature: the refusal and its place, or the count of arguments and the last one's end.
-abbrev pub measured : Plan State → Measured
-measured (bad r at) = M.Refused r at
-measured (good L st) = M.Accepted (st .count) (st .end)

@@ -1,3 +1,4 @@
 pub mod Sign
 pub mod Bytes
 pub mod Promotion
+pub mod Numbers

@@ -1,7 +1,7 @@
 // Words and their bytes. Placement rule 1: bytes and halfwords become words, through signed types.
 ghost use mathlib.Core.Path.{_≡_};
 ghost use Prim.Native.Nat.{_+_, _≤_};
-ghost use lib.ListN.{length};
+ghost use lib.ListN.{drop, length, take};
 ghost use lib.Seq.{sets};
 ghost use mir.Syntax.{w16, w32, w8};
 ghost use mir.Val.{ofZ, toZ};
@@ -81,4 +81,15 @@ pub fn write_word(out: &mut [u8], at: usize, w: u32)
     out[at + 1] = (w / 65536 % 256) as u8;
     out[at + 2] = (w / 256 % 256) as u8;
     out[at + 3] = (w % 256) as u8;
+}
+
+// The big-endian word at a place.
+pub fn word_at(src: &[u8], at: usize) -> u32
+    requires { ⌜ at + 4 ≤ length (now src) ⌝ }
+    ensures { λ r. ⌜ bytesOf 4 r ≡ take 4 (drop at (now (src .entry))) ⌝ }
+{
+    (src[at] as u32) * 16777216
+        + (src[at + 1] as u32) * 65536
+        + (src[at + 2] as u32) * 256
+        + src[at + 3] as u32
 }

@@ -19,9 +19,9 @@ use Rattle.o32.specs.O32.{O32, carriers}
 use Rattle.records.specs.declared.Record.{Record}
 use Rattle.records.specs.declared.Record.the-variants as R
 use Rattle.records.specs.Records.{recordOf}
-use Rattle.block.specs.Block.{Fit}
-use Rattle.block.proofs.Ahead as A
-use Rattle.block.proofs.Ahead.{Ahead, ahead-starts, ahead-ends, ahead-within, ahead-sized, ahead-fit, Behind, ahead-turn}
+use Rattle.placement.specs.Fitting.{Fit}
+use Rattle.records.proofs.Ahead as A
+use Rattle.records.proofs.Ahead.{Ahead, ahead-starts, ahead-ends, ahead-within, ahead-sized, ahead-fit, Behind, ahead-turn}
 use Rattle.writer.specs.Filling.{Fillable, filled}
 
 pub record Filling (list : List ℕ) (n : ℕ) (final : List ℕ) (st : State) (at : ℕ) (img : List ℕ) : Type 0 where

@@ -32,6 +32,18 @@ slice-aggregate-find c = omega arith
 find-requires : tie.Need-find-requires Inv-loop μ-loop
 find-requires c κs = omega arith
 
+sub-is-case : tie.Need-sub-is-case Inv-loop μ-loop
+sub-is-case c = omega arith
+
+part-is-case-start : tie.Need-part-is-case-start Inv-loop μ-loop
+part-is-case-start c = omega arith
+
+part-is-case-end : tie.Need-part-is-case-end Inv-loop μ-loop
+part-is-case-end c = omega arith
+
+is-case-requires : tie.Need-is-case-requires Inv-loop μ-loop
+is-case-requires c κs = tt
+
 sub-run : tie.Need-sub-run Inv-loop μ-loop
 sub-run c = omega arith
 
@@ -42,7 +54,7 @@ part-run-end : tie.Need-part-run-end Inv-loop μ-loop
 part-run-end c = omega arith
 
 run-requires : tie.Need-run-requires Inv-loop μ-loop
-run-requires c κs = tt
+run-requires c κs = c .before .before .before .is-case .ensures (c .before .before .if1 .taken)
 
 add-at : tie.Need-add-at Inv-loop μ-loop
 add-at c = omega arith
@@ -69,6 +81,10 @@ main-spec =
     array-share-prefix-text
     slice-aggregate-find
     find-requires
+    sub-is-case
+    part-is-case-start
+    part-is-case-end
+    is-case-requires
     sub-run
     part-run-start
     part-run-end

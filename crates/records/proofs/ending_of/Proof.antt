@@ -3,7 +3,8 @@
 use mathlib.Core.Logic.{inl, inr}
 use mathlib.Core.Path.{refl}
 use native.Mathlib.Omega.{arith}
-use Rattle.records.proofs.Answers.{up-small, width-le}
+use Rattle.kinds.proofs.Classes.{width-le}
+use Rattle.records.proofs.Answers.{up-small}
 use borrow.Author.Needs.{needs}
 use Rattle.records.proofs.ending_of.Statement.{statement}
 use Rattle.records.proofs.ending_of.Tie as tie

@@ -1,0 +1,75 @@
+// What a kind byte means.
+ghost use mathlib.Core.Path.{_≡_};
+ghost use Rattle.o32.specs.Kinds.{classNumber, is, kindOf};
+ghost use Rattle.o32.specs.Offsets.{width};
+use o32::Class;
+use o32::Kind;
+
+// A row of the table of kinds.
+fn row(size: usize, alignment: usize, class: Class) -> Kind
+    ensures { λ r. ⌜ r ≡ record { size = size; alignment = alignment; class = class } ⌝ }
+{
+    Kind {
+        size,
+        alignment,
+        class,
+    }
+}
+
+// What a kind byte means, for every byte.
+pub fn kind_of(byte: u8) -> Kind
+    ensures { λ r. ⌜ r ≡ kindOf byte ⌝ }
+{
+    let k = byte as usize;
+    match k {
+        0x01 => row(1, 4, Class::Signed),
+        0x02 => row(1, 4, Class::Unsigned),
+        0x03 => row(2, 4, Class::Signed),
+        0x04 => row(2, 4, Class::Unsigned),
+        0x05 => row(4, 4, Class::Plain),
+        0x06 => row(8, 8, Class::Plain),
+        0x07 => row(4, 4, Class::Float),
+        0x08 => row(8, 8, Class::Float),
+        0x0A => row(0, 0, Class::Marker),
+        0x0B => row(4, 4, Class::Pointer),
+        0x40..=0x7F => row(k - 0x3F, 4, Class::Plain),
+        0x80..=0xBF => row(64 + 4 * (k - 0x7F), 4, Class::Plain),
+        0xC0..=0xFF => row(8 * (k - 0xBF), 8, Class::Plain),
+        _ => row(0, 0, Class::Unknown),
+    }
+}
+
+fn class_number(class: Class) -> u32
+    ensures { λ r. ⌜ r ≡ classNumber class ⌝ }
+{
+    match class {
+        Class::Unknown => 0,
+        Class::Marker => 1,
+        Class::Pointer => 2,
+        Class::Signed => 3,
+        Class::Unsigned => 4,
+        Class::Float => 5,
+        Class::Plain => 6,
+    }
+}
+
+// Whether a kind is of a class.
+pub fn is_class(class: Class, kind: Kind) -> bool
+    ensures { λ r. ⌜ r ≡ is class kind ⌝ }
+{
+    let own = kind.class;
+    class_number(own) == class_number(class)
+}
+
+// Rule 1: the bytes of an argument after promotion.
+pub fn width_of(kind: Kind) -> usize
+    ensures { λ r. ⌜ r ≡ width kind ⌝ }
+{
+    if is_class(Class::Signed, kind) {
+        return 4;
+    }
+    if is_class(Class::Unsigned, kind) {
+        return 4;
+    }
+    kind.size
+}

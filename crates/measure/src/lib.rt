@@ -1,0 +1,60 @@
+// The first walk over the records of a list or a signature.
+ghost use mathlib.Core.Bool.{false, true};
+ghost use mathlib.Core.Path.{_≡_};
+ghost use Prim.Native.Nat.{ℕ};
+ghost use Rattle.carried.specs.Convention.{plan};
+ghost use Rattle.o32.specs.O32.{O32};
+ghost use Rattle.measure.specs.Measured.{measured};
+use records::Record;
+
+// What a list or a signature answers: the first refusal and its place, or the count of arguments and the last one's end.
+pub enum Measured {
+    Refused { number: u32, place: usize },
+    Accepted { count: usize, end: usize },
+}
+
+// A refused record's answer, as that of the whole.
+fn refusal(answer: Record, place: usize) -> Measured
+    ensures { λ r. ⌜ ((n : ℕ) → answer ≡ Record.Refused n → r ≡ Measured.Refused n place) ⌝ }
+{
+    match answer {
+        Record::Refused(number) => Measured::Refused { number, place },
+        _ => Measured::Accepted { count: 0, end: 0 },
+    }
+}
+
+// The walk over the records of a list (bodies) or of a signature.
+fn measure(list: &[u8], bodies: bool) -> Measured
+    ensures { λ r. ⌜ r ≡ measured (plan O32 bodies (now (list .entry))) ⌝ }
+{
+    let mut st = records::start();
+    let mut at = 0;
+    while at < list.len() {
+        let left = list.len() - (at + 1);
+        let answer = records::take(st, list[at], bodies, left);
+        let Record::Taken { placement, next } = answer else {
+            return refusal(answer, at);
+        };
+        let kind = placement.kind;
+        at = at + 1 + records::body_behind(bodies, kind.size);
+        st = next;
+    }
+    Measured::Accepted {
+        count: st.count,
+        end: st.end,
+    }
+}
+
+// The records of a list: refusals 1 to 5 with their place, or the count of arguments and the last one's end.
+pub fn measure_list(list: &[u8]) -> Measured
+    ensures { λ r. ⌜ r ≡ measured (plan O32 true (now (list .entry))) ⌝ }
+{
+    measure(list, true)
+}
+
+// The records of a signature: refusals 1, 2, 3 and 5 with their place, or the count of arguments and the last one's end.
+pub fn measure_signature(signature: &[u8]) -> Measured
+    ensures { λ r. ⌜ r ≡ measured (plan O32 false (now (signature .entry))) ⌝ }
+{
+    measure(signature, false)
+}
