@@ -1,12 +1,13 @@
--- The twelve bench cases that are to be proved: one table, one theorem, by computation.
+-- The twelve bench cases that are to be proved: one table, one theorem, by computation. And the edges, likewise.
 -- Assumes nothing.
 use mathlib.Core.List.{List, [], _∷_, _++_}
 use mathlib.Core.Bool.{Bool, true, false, _&&_}
 use Prim.Native.Nat.{ℕ}
-use lib.Dec.{T}
+use lib.Dec.{T, eqb}
+use lib.ListN.{replicate}
 use Rattle.words.specs.Words.{bytesOf, same}
 use Rattle.carried.specs.Image.{Answer, done, refused}
-use Rattle.carried.specs.Convention.{write}
+use Rattle.carried.specs.Convention.{write, read}
 use Rattle.o32.specs.O32.{O32}
 
 -- a list, and its image by words: $4 to $7, $f12 to $f15, the area
@@ -75,3 +76,17 @@ table =
 
 bench-cases : T (hold table)
 bench-cases = tt
+
+-- The edges: what is refused and where. A signature that is accepted comes to refusal 6, since the image is empty.
+abbrev refuses : Answer → ℕ → ℕ → Bool
+refuses (done img) number place = false
+refuses (refused r at) number place = eqb r number && eqb at place
+
+edges : T (refuses (read O32 (replicate 32 0x05) []) 6 0
+    && refuses (read O32 (replicate 33 0x05) []) 3 32
+    && refuses (read O32 (0xFF ∷ 0xFF ∷ []) []) 6 0
+    && refuses (read O32 (0xFF ∷ 0xFF ∷ 0x05 ∷ []) []) 5 2
+    && refuses (write O32 (0x05 ∷ 0 ∷ [])) 4 0
+    && refuses (write O32 marker) 2 0
+    && refuses (read O32 (0x01 ∷ []) (wordBytes (0x80 ∷ replicate 11 0))) 8 0)
+edges = tt
