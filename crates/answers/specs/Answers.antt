@@ -7,7 +7,7 @@ use lib.Dec.{ltb}
 use Rattle.carried.specs.Image as C
 use Rattle.answers.specs.declared.Answer.{Answer}
 
--- Refusal 7, "output buffer shorter than the result", or 13, "code buffer too short": this number, at no place.
+-- Refusal 7, "output buffer shorter than the result", or 13, "code buffer too short": this number, at place 0.
 abbrev pub within : ℕ → ℕ → C.Answer → C.Answer
 within number room (C.refused r at) = C.refused r at
 within number room (C.done x) = cond (ltb room (length x)) (C.refused number 0) (C.done x)

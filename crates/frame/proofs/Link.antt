@@ -1,0 +1,66 @@
+-- The bytes that the writers of prologue and epilogue answer are the words' own, of an accepted request, where they fit; so the
+-- machine's theorem speaks of the bytes that the two functions write.
+-- Assumes nothing.
+use mathlib.Core.Path.{_≡_, refl, sym, ap, _∙_, subst₂}
+use mathlib.Core.List.{List}
+use mathlib.Core.Bool.{Bool, true, false, cond}
+use mathlib.Core.Logic.{_↔_}
+use Prim.Native.Nat.{ℕ, _≤_}
+use native.Mathlib.Omega.{arith}
+use lib.ListN.{length, take}
+use lib.Seq.{take-at}
+use lib.Dec.{eqb, ltb}
+use borrow.Author.Tests.{eqb-true, eqb-false, ltb-false}
+use Rattle.carried.specs.Image as C
+use Rattle.answers.specs.Answers.{answerOf, bufferOf}
+use Rattle.saves.specs.declared.Request.{Request}
+use Rattle.saves.specs.Frame.{refusalOf}
+use Rattle.saves.specs.Words.{prologueWords, epilogueWords, bytesOfWords}
+use Rattle.saves.specs.Demand.{Keeps}
+use Rattle.saves.proofs.Theorem.{frames}
+use Rattle.frame.specs.Code.{codeInto, prologueInto, epilogueInto}
+use Rattle.frame.proofs.Answers.{code-done}
+
+-- of the three cases, one is done
+done-is : (accepted short : Bool) (n : ℕ) (x y : List ℕ) → cond accepted (cond short (C.refused 13 0) (C.done y)) (C.refused n 0) ≡ C.done x
+    → (accepted ≡ true) × (short ≡ false) × (x ≡ y)
+done-is true true n x y p = let z : _≡_ {A = ℕ} 0 1 = cc in absurd (omega arith)
+done-is true false n x y p = (refl, refl, cc)
+done-is false short n x y p = let z : _≡_ {A = ℕ} 0 1 = cc in absurd (omega arith)
+
+pub code-is : (r : Request) (ws x : List ℕ) (room : ℕ)
+    → (codeInto r ws room ≡ C.done x) ↔ ((refusalOf r ≡ 0) × (x ≡ bytesOfWords ws) × (length x ≤ room))
+unfolding codeInto
+code-is r ws x room = (
+  (λ p.
+      let d = done-is (eqb (refusalOf r) 0) (ltb room (length (bytesOfWords ws))) (refusalOf r) x (bytesOfWords ws) p in
+      (eqb-true _ _ (d .0), d .2, omega (arith, ltb-false room (length (bytesOfWords ws)) (d .1), ap length (d .2)))),
+  (λ h. code-done r ws room (h .0) (omega (arith, ap length (h .1), h .2)) ∙ ap C.done (sym (h .1))),
+)
+
+-- what was written where the answer is no refusal
+abbrev Wrote : Request → List ℕ → List ℕ → Type 0
+Wrote r ws buf = (refusalOf r ≡ 0) × (take (answerOf (codeInto r ws (length buf)) .length) (bufferOf (codeInto r ws (length buf)) buf) ≡ bytesOfWords ws)
+
+wrote : (r : Request) (ws buf : List ℕ) → answerOf (codeInto r ws (length buf)) .refusal ≡ 0 → Wrote r ws buf
+unfolding codeInto
+wrote r ws buf = go (eqb (refusalOf r) 0) (ltb (length buf) (length (bytesOfWords ws))) refl
+  where
+    answer : (accepted short : Bool) → C.Answer
+    answer accepted short = cond accepted (cond short (C.refused 13 0) (C.done (bytesOfWords ws))) (C.refused (refusalOf r) 0)
+
+    go : (accepted short : Bool) → eqb (refusalOf r) 0 ≡ accepted → answerOf (answer accepted short) .refusal ≡ 0
+        → (refusalOf r ≡ 0) × (take (answerOf (answer accepted short) .length) (bufferOf (answer accepted short) buf) ≡ bytesOfWords ws)
+    go true true e h = absurd (omega arith)
+    go true false e h = (eqb-true (refusalOf r) 0 e, take-at (bytesOfWords ws) _ _ refl)
+    go false short e h = absurd (eqb-false (refusalOf r) 0 e h)
+
+-- The bytes that stand in the two buffers behind calls that were not refused keep what is demanded of them.
+pub written-keeps : (r : Request) (out out′ : List ℕ)
+    → answerOf (prologueInto r (length out)) .refusal ≡ 0 → answerOf (epilogueInto r (length out′)) .refusal ≡ 0
+    → Keeps r (take (answerOf (prologueInto r (length out)) .length) (bufferOf (prologueInto r (length out)) out))
+    (take (answerOf (epilogueInto r (length out′)) .length) (bufferOf (epilogueInto r (length out′)) out′))
+written-keeps r out out′ p q =
+    let a = wrote r (prologueWords r) out p in
+    let b = wrote r (epilogueWords r) out′ q in
+    subst₂ (Keeps r) (sym (a .1)) (sym (b .1)) (frames r (a .0))

@@ -1,0 +1,36 @@
+-- `put_saves` meets its contract: the registers stand behind the pairs.
+-- Assumes nothing.
+use native.Mathlib.Omega.{arith}
+use Rattle.saves.specs.declared.Request.{Request}
+use Rattle.frame.proofs.Bytes.{length-saves, saves-put}
+use Rattle.frame.proofs.Answers.{laid}
+use borrow.Author.Needs.{needs}
+use Rattle.frame.proofs.put_saves.Statement.{statement}
+use Rattle.frame.proofs.put_saves.Tie as tie
+
+put-pairs-requires : tie.Need-put-pairs-requires
+put-pairs-requires c κs =
+    let s = c .before .before .pre .0 in
+    let l = laid _ (s .0) (s .1) in
+    ((s .2, omega arith), omega (arith, length-saves (c .before .before .args .request)))
+
+put-registers-requires : tie.Need-put-registers-requires
+put-registers-requires c κs =
+    let s = c .before .before .before .before .before .before .pre .0 in
+    let l = laid _ (s .0) (s .1) in
+    ((s .3, omega arith), omega (arith, length-saves (c .before .before .before .before .before .before .args .request)))
+
+same-length : tie.Need-same-length
+same-length c = search needs
+
+returns : tie.Need-returns
+returns c =
+    let r : Request = c .before .before .before .before .before .before .before .before .before .args .request in
+    let l = laid r (c .before .before .before .before .before .before .before .before .before .pre .0 .0) (c .before .before .before .before .before .before .before .before .before .pre .0 .1) in
+    let p = c .before .before .before .before .before .before .put-pairs .ensures in (
+      omega (arith, length-saves r),
+      saves-put _ _ r _ _ _ _ _ (rw (l .floating) at (p .1)) (p .0) (rw (l .general) at (c .before .before .put-registers .ensures .1)),
+    )
+
+pub put-saves-spec : {M : Type 1} → statement M
+put-saves-spec = tie.close (tie.spec put-pairs-requires put-registers-requires same-length returns)

@@ -1,0 +1,97 @@
+// Runs the frames of a text on standard input, one to a line, and prints what layout, prologue and epilogue answer.
+//
+// An empty line, and a line that starts with #, is printed as it is. Any other line is printed with the answer below it:
+//
+//     frame ROOM, REQUEST     the layout of a frame, its prologue and its epilogue, in buffers of ROOM bytes
+//
+// ROOM is a decimal number, at most 4,096. REQUEST is five words of eight hex digits: leaf (0 is no), bytes of locals, bytes of
+// outgoing arguments, general mask, pair mask. A line without a room or without 20 bytes of request is answered "malformed".
+//
+// The answer is the layout's numbers, F and B first, then for prologue and epilogue the refusal, or the words that were
+// written; their length in bytes, and whether every other byte of the buffer is kept.
+ghost use Prim.Native.Nat.{_≤_};
+ghost use lib.ListN.{length};
+use answers::Answer;
+use libc::STDIN_FILENO;
+use libc::STDOUT_FILENO;
+use saves::Layout;
+use saves::Request;
+
+fn print_number(name: &[u8], n: u32) {
+    lines::print(name);
+    io::print_decimal(STDOUT_FILENO, n as u64);
+}
+
+fn print_layout(layout: Layout) {
+    if layout.refusal != 0 || layout.place != 0 {
+        lines::print_refusal(layout.refusal, layout.place as usize);
+    }
+    print_number(b"F ", layout.frame);
+    print_number(b", B ", layout.build);
+    print_number(b", floating ", layout.floating);
+    print_number(b", general ", layout.general);
+    print_number(b", locals ", layout.locals);
+    lines::print(b"\n");
+}
+
+// The request in five words.
+fn request_in(words: &[u8]) -> Request
+    requires { ⌜ 20 ≤ length (now words) ⌝ }
+{
+    Request {
+        leaf: words::word_at(words, 0) != 0,
+        locals: words::word_at(words, 4),
+        outgoing: words::word_at(words, 8),
+        general: words::word_at(words, 12),
+        pairs: words::word_at(words, 16),
+    }
+}
+
+// The prologue or, where control goes back, the epilogue of a request.
+fn code_of(request: Request, back: bool, out: &mut [u8]) -> Answer {
+    if back {
+        return frame::epilogue(request, out);
+    }
+    frame::prologue(request, out)
+}
+
+fn show_code(room: usize, request: Request, back: bool)
+    requires { ⌜ room ≤ 4096 ⌝ }
+{
+    let mut out = io::buffer();
+    lines::put(&mut out, 0, 0xA5, 0, 4096);
+    let answer = code_of(request, back, &mut out[..room]);
+    lines::show(answer, &out);
+}
+
+// The frame of a line.
+fn run(line: &[u8]) {
+    let room = lines::room(line);
+    let mut words = io::buffer();
+    let n = lines::bytes(line, room.end, line.len(), &mut words);
+    if n != 20 {
+        return lines::malformed();
+    }
+    if room.value > 4096 {
+        return lines::malformed();
+    }
+    let request = request_in(&words);
+    print_layout(frame::layout_of(request));
+    lines::print(b"prologue\n");
+    show_code(room.value, request, false);
+    lines::print(b"epilogue\n");
+    show_code(room.value, request, true);
+}
+
+fn main() {
+    let mut text = [0u8; 16384];
+    let n = io::read_full(STDIN_FILENO, &mut text);
+    let mut at = 0;
+    while at < n {
+        let end = lines::find(&text[..n], at, b'\n');
+        if lines::is_case(&text[at..end]) {
+            run(&text[at..end]);
+        }
+        at = end + 1;
+    }
+}

@@ -1,0 +1,5 @@
+pub mod Fields
+pub mod Steps
+pub mod Runs
+pub mod Wide
+pub mod Cases
