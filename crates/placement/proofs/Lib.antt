@@ -2,3 +2,4 @@ pub mod KindFacts
 pub mod Laws
 pub mod Steps
 pub mod Carrying
+pub mod Bounds

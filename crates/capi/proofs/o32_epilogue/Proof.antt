@@ -1,0 +1,29 @@
+-- `o32_epilogue` meets its contract: the answer of the epilogue of the request that C hands over, in 32 bits.
+-- Assumes nothing.
+use mathlib.Core.Path.{ap, _∙_}
+use lib.ListN.{length}
+use Rattle.capi.specs.Numbers.{narrow}
+use Rattle.capi.proofs.Bounds.{epilogue-fits}
+use borrow.Author.Needs.{needs}
+use Rattle.capi.proofs.o32_epilogue.Statement.{statement}
+use Rattle.capi.proofs.o32_epilogue.Tie as tie
+
+as-request-requires : tie.Need-as-request-requires
+as-request-requires c κs = search needs
+
+epilogue-requires : tie.Need-epilogue-requires
+epilogue-requires c κs = search needs
+
+narrowed-requires : tie.Need-narrowed-requires
+narrowed-requires c κs = epilogue-fits (c .before .before .before .before .as-request .result) (length (c .before .before .before .before .before .before .args .code .now)) (c .before .before .epilogue .ensures .0)
+
+same-length : tie.Need-same-length
+same-length c = search needs
+
+returns : tie.Need-returns
+returns c =
+    let e = c .before .before .before .before .before .as-request .ensures in
+    (c .narrowed .ensures ∙ ap narrow (rw e at (c .before .before .before .epilogue .ensures .0)), rw e at (c .before .before .before .epilogue .ensures .1))
+
+pub o32-epilogue-spec : {M : Type 1} → statement M
+o32-epilogue-spec = tie.close (tie.spec as-request-requires epilogue-requires narrowed-requires same-length returns)

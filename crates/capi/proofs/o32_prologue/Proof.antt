@@ -1,0 +1,29 @@
+-- `o32_prologue` meets its contract: the answer of the prologue of the request that C hands over, in 32 bits.
+-- Assumes nothing.
+use mathlib.Core.Path.{ap, _∙_}
+use lib.ListN.{length}
+use Rattle.capi.specs.Numbers.{narrow}
+use Rattle.capi.proofs.Bounds.{prologue-fits}
+use borrow.Author.Needs.{needs}
+use Rattle.capi.proofs.o32_prologue.Statement.{statement}
+use Rattle.capi.proofs.o32_prologue.Tie as tie
+
+as-request-requires : tie.Need-as-request-requires
+as-request-requires c κs = search needs
+
+prologue-requires : tie.Need-prologue-requires
+prologue-requires c κs = search needs
+
+narrowed-requires : tie.Need-narrowed-requires
+narrowed-requires c κs = prologue-fits (c .before .before .before .before .as-request .result) (length (c .before .before .before .before .before .before .args .code .now)) (c .before .before .prologue .ensures .0)
+
+same-length : tie.Need-same-length
+same-length c = search needs
+
+returns : tie.Need-returns
+returns c =
+    let e = c .before .before .before .before .before .as-request .ensures in
+    (c .narrowed .ensures ∙ ap narrow (rw e at (c .before .before .before .prologue .ensures .0)), rw e at (c .before .before .before .prologue .ensures .1))
+
+pub o32-prologue-spec : {M : Type 1} → statement M
+o32-prologue-spec = tie.close (tie.spec as-request-requires prologue-requires narrowed-requires same-length returns)

@@ -1,0 +1,35 @@
+-- The numbers that C hands over and gets.
+use mathlib.Core.Bool.{not}
+use Prim.Native.Nat.{ℕ}
+use lib.Dec.{eqb}
+use Rattle.answers.specs.declared.Answer.{Answer}
+use Rattle.saves.specs.declared.Request.{Request}
+use Rattle.saves.specs.declared.Layout.{Layout}
+use Rattle.capi.specs.declared.O32Answer.{O32Answer}
+use Rattle.capi.specs.declared.O32Layout.{O32Layout}
+
+-- An answer, number by number.
+abbrev pub narrow : Answer → O32Answer
+narrow a = record { refusal = a .refusal; place = a .place; length = a .length }
+
+-- A layout, number by number.
+abbrev pub layoutNumbers : Layout → O32Layout
+layoutNumbers y = record {
+  refusal = y .refusal;
+  place = y .place;
+  frame = y .frame;
+  build = y .build;
+  floating = y .floating;
+  general = y .general;
+  locals = y .locals;
+}
+
+-- A request. C says whether a routine is a leaf by a number: 0 is no, any other yes.
+abbrev pub requestOf : ℕ → ℕ → ℕ → ℕ → ℕ → Request
+requestOf leaf locals outgoing general pairs = record {
+  leaf = not (eqb leaf 0);
+  locals = locals;
+  outgoing = outgoing;
+  general = general;
+  pairs = pairs;
+}

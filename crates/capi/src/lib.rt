@@ -1,0 +1,138 @@
+// The proved functions for C. A slice is a pointer and a length there; each answer is a struct of 32-bit numbers, by value.
+ghost use mathlib.Core.Path.{_≡_};
+ghost use Prim.Native.Nat.{_≤_};
+ghost use lib.ListN.{length};
+ghost use Rattle.answers.specs.Answers.{answerOf, bufferOf};
+ghost use Rattle.call.specs.Answers.{readInto, writeInto};
+ghost use Rattle.saves.specs.Frame.{layoutOf};
+ghost use Rattle.frame.specs.Code.{epilogueInto, prologueInto};
+ghost use Rattle.capi.specs.Numbers.{layoutNumbers, narrow, requestOf};
+use answers::Answer;
+use saves::Request;
+
+// A refusal and its place, or 0, 0 and the length of what was written.
+#[repr(C)]
+pub struct O32Answer {
+    pub refusal: u32,
+    pub place: u32,
+    pub length: u32,
+}
+
+// A frame: a refusal and all other numbers 0, or 0, 0 and the frame's numbers.
+#[repr(C)]
+pub struct O32Layout {
+    pub refusal: u32,
+    pub place: u32,
+    pub frame: u32,
+    pub build: u32,
+    pub floating: u32,
+    pub general: u32,
+    pub locals: u32,
+}
+
+// An answer in 32-bit numbers. No answer has a larger place or length than 1,057.
+fn narrowed(answer: Answer) -> O32Answer
+    requires { ⌜ (answer .place ≤ 1057) × (answer .length ≤ 1057) ⌝ }
+    ensures { λ r. ⌜ r ≡ narrow answer ⌝ }
+{
+    let place = answer.place as u32;
+    let length = answer.length as u32;
+    O32Answer {
+        refusal: answer.refusal,
+        place,
+        length,
+    }
+}
+
+// A request as C hands it over.
+fn as_request(leaf: u32, locals: u32, outgoing: u32, general: u32, pairs: u32) -> Request
+    ensures { λ r. ⌜ r ≡ requestOf leaf locals outgoing general pairs ⌝ }
+{
+    Request {
+        leaf: leaf != 0,
+        locals,
+        outgoing,
+        general,
+        pairs,
+    }
+}
+
+// The call image of a list.
+#[no_mangle]
+pub extern "C" fn o32_write(list: &[u8], image: &mut [u8]) -> O32Answer
+    ensures answer { λ r. ⌜ r ≡ narrow (answerOf (writeInto (now (list .entry)) (length (now (image .entry))))) ⌝ }
+    ensures buffer { λ _. ⌜ now (image .exit) ≡ bufferOf (writeInto (now (list .entry)) (length (now (image .entry)))) (now (image .entry)) ⌝ }
+{
+    let answer = call::write(list, image);
+    narrowed(answer)
+}
+
+// The list of an image under a signature.
+#[no_mangle]
+pub extern "C" fn o32_read(signature: &[u8], image: &[u8], list: &mut [u8]) -> O32Answer
+    ensures answer { λ r. ⌜ r ≡ narrow (answerOf (readInto (now (signature .entry)) (now (image .entry)) (length (now (list .entry))))) ⌝ }
+    ensures buffer { λ _. ⌜ now (list .exit) ≡ bufferOf (readInto (now (signature .entry)) (now (image .entry)) (length (now (list .entry)))) (now (list .entry)) ⌝ }
+{
+    let answer = call::read(signature, image, list);
+    narrowed(answer)
+}
+
+// The frame of a request.
+#[no_mangle]
+pub extern "C" fn o32_frame(
+    leaf: u32,
+    locals: u32,
+    outgoing: u32,
+    general: u32,
+    pairs: u32,
+) -> O32Layout
+    ensures { λ r. ⌜ r ≡ layoutNumbers (layoutOf (requestOf leaf locals outgoing general pairs)) ⌝ }
+{
+    let request = as_request(leaf, locals, outgoing, general, pairs);
+    let layout = frame::layout_of(request);
+    O32Layout {
+        refusal: layout.refusal,
+        place: layout.place,
+        frame: layout.frame,
+        build: layout.build,
+        floating: layout.floating,
+        general: layout.general,
+        locals: layout.locals,
+    }
+}
+
+// The prologue of a request.
+#[no_mangle]
+pub extern "C" fn o32_prologue(
+    leaf: u32,
+    locals: u32,
+    outgoing: u32,
+    general: u32,
+    pairs: u32,
+    code: &mut [u8],
+) -> O32Answer
+    ensures answer { λ r. ⌜ r ≡ narrow (answerOf (prologueInto (requestOf leaf locals outgoing general pairs) (length (now (code .entry))))) ⌝ }
+    ensures buffer { λ _. ⌜ now (code .exit) ≡ bufferOf (prologueInto (requestOf leaf locals outgoing general pairs) (length (now (code .entry)))) (now (code .entry)) ⌝ }
+{
+    let request = as_request(leaf, locals, outgoing, general, pairs);
+    let answer = frame::prologue(request, code);
+    narrowed(answer)
+}
+
+// The epilogue of a request.
+#[no_mangle]
+pub extern "C" fn o32_epilogue(
+    leaf: u32,
+    locals: u32,
+    outgoing: u32,
+    general: u32,
+    pairs: u32,
+    code: &mut [u8],
+) -> O32Answer
+    ensures answer { λ r. ⌜ r ≡ narrow (answerOf (epilogueInto (requestOf leaf locals outgoing general pairs) (length (now (code .entry))))) ⌝ }
+    ensures buffer { λ _. ⌜ now (code .exit) ≡ bufferOf (epilogueInto (requestOf leaf locals outgoing general pairs) (length (now (code .entry)))) (now (code .entry)) ⌝ }
+{
+    let request = as_request(leaf, locals, outgoing, general, pairs);
+    let answer = frame::epilogue(request, code);
+    narrowed(answer)
+}

@@ -1,0 +1,162 @@
+-- How far a plan reaches: each record takes its bytes of the arguments' end and counts as one argument, or it is the one marker.
+-- So every refusal's place, and the length of every accepted list, is at most 1,024 + 32 + 1.
+-- Assumes nothing.
+use mathlib.Core.Path.{_≡_, refl, subst}
+use mathlib.Core.List.{List, [], _∷_}
+use mathlib.Core.Bool.{Bool, true, false, cond, not, _&&_, _||_}
+use Prim.Native.Nat.{ℕ, zero, suc, _+_, _≤_}
+use native.Mathlib.Omega.{arith}
+use lib.ListN.{length}
+use lib.Dec.{leb, ltb}
+use borrow.Author.Tests.{leb-true, leb-false}
+use Rattle.carried.specs.Image.{Placed}
+use Rattle.carried.specs.Convention.{Step, refuse, next, Plan, bad, good, also, behind, limited, after, from, plan}
+use Rattle.o32.specs.declared.Class.the-variants.{Unknown, Marker, Signed, Unsigned}
+use Rattle.o32.specs.declared.Kind.{Kind}
+use Rattle.o32.specs.declared.State.{State}
+use Rattle.o32.specs.declared.Placement.{Placement}
+use Rattle.o32.specs.Kinds.{kindOf, is}
+use Rattle.o32.specs.Offsets.{width}
+use Rattle.o32.specs.O32.{misplaced, full, onward, stepped, O32}
+use Rattle.placement.proofs.KindFacts.{Sound, kind-sound}
+use Rattle.placement.proofs.Laws.{up-ge}
+use Rattle.placement.proofs.Steps.{placement}
+
+-- ---- one step
+
+-- how many bytes of a list can stand before this state
+abbrev room : State → ℕ
+room st = st .end + st .count + cond (st .marked) 1 0
+
+-- a record that is placed has room for its kind byte and its body
+record Grown (st : State) (k : Kind) (p : Placement) (st′ : State) : Type 0 where
+  size : p .kind .size ≡ k .size
+  more : room st + 1 + k .size ≤ room st′
+  few : st .count ≤ 32 → st′ .count ≤ 32
+
+abbrev Grows : State → Kind → Step Placement State → Type 0
+Grows st k (refuse r) = Unit {0}
+Grows st k (next p st′) = Grown st k p st′
+
+-- a marker stands at most once
+unmarked : (t m a b : Bool) → (t && (m || a)) || b ≡ false → t ≡ true → m ≡ false
+unmarked true true a b e f = e
+unmarked true false a b e f = refl
+unmarked false m a b e f = cc
+
+-- an argument that is placed is at most the 32nd
+not-full : (t a : Bool) → not t && a ≡ false → t ≡ false → a ≡ false
+not-full true a e f = cc
+not-full false a e f = e
+
+module _ (st : State) (k : Kind) (s : Sound k) where
+  size-le : k .size ≤ width k
+  size-le = go (is Signed k || is Unsigned k) refl
+    where
+      go : (t : Bool) → is Signed k || is Unsigned k ≡ t → k .size ≤ cond t 4 (k .size)
+      go true e = omega (arith, s .promoted e)
+      go false e = omega arith
+
+  grown : is Unknown k ≡ false → misplaced st k ≡ false → full st k ≡ false → Grown st k (placement st k) (onward st k)
+  grown d e f = go (is Marker k) refl
+    where
+      go : (t : Bool) → is Marker k ≡ t → Grown st k (placement st k) (onward st k)
+      go true g =
+          let m : st .marked ≡ false = unmarked (is Marker k) (st .marked) _ _ e g in
+          let z : (k .size ≡ 0) × (k .alignment ≡ 0) = s .markers g in
+          record { size = refl; more = rw (g, m) (omega arith); few = rw g (λ h. h) }
+      go false g =
+          let n : leb 32 (st .count) ≡ false = not-full (is Marker k) (leb 32 (st .count)) f g in
+          let a : 1 ≤ k .alignment = s .aligned (rw (d, g) refl) in
+          record {
+            size = refl;
+            more = rw g (omega (arith, up-ge (k .alignment) (st .end) a, up-ge 4 (width k) (omega arith), size-le));
+            few = rw g (λ h. omega (arith, leb-false 32 (st .count) n));
+          }
+
+  grows : Grows st k (stepped st k)
+  grows = go (is Unknown k) (misplaced st k) (full st k) refl refl refl
+    where
+      go : (u m f : Bool) → is Unknown k ≡ u → misplaced st k ≡ m → full st k ≡ f
+          → Grows st k (cond u (refuse 1) (cond m (refuse 2) (cond f (refuse 3) (next (placement st k) (onward st k)))))
+      go true m f d e g = tt
+      go false true f d e g = tt
+      go false false true d e g = tt
+      go false false false d e g = grown d e g
+
+-- ---- all steps
+
+-- what holds at a byte of a list, with n bytes of a body still to pass
+record Held (at n : ℕ) (st : State) : Type 0 where
+  before : at + n ≤ room st
+  fits : st .end ≤ 1024
+  few : st .count ≤ 32
+
+-- n bytes that are accepted, and the state behind them
+pub record Reached (n : ℕ) (last : State) : Type 0 where
+  pub long : n ≤ 1057
+  pub fits : last .end ≤ 1024
+
+-- the place of a refusal, or the bytes of what is accepted
+abbrev Reaches : ℕ → Plan State → Type 0
+Reaches n (bad r p) = p ≤ 1057
+Reaches n (good L last) = Reached n last
+
+one-marker : (t : Bool) → cond t 1 0 ≤ 1
+one-marker true = omega arith
+one-marker false = omega arith
+
+held-place : (at n : ℕ) (st : State) → Held at n st → at + n ≤ 1057
+held-place at n st h = omega (arith, h .before, h .fits, h .few, one-marker (st .marked))
+
+behind-le : (bodies : Bool) (n : ℕ) → behind bodies n ≤ n
+behind-le true n = omega arith
+behind-le false n = omega arith
+
+also-reaches : (n m : ℕ) (s : Placed) (q : Plan State) → n ≡ m → Reaches n q → Reaches m (also s q)
+also-reaches n m s (bad r p) e h = h
+also-reaches n m s (good L last) e h = record { long = omega (arith, h .long); fits = h .fits }
+
+reaches : (bodies : Bool) (l : List ℕ) (at n : ℕ) (st : State) → Held at n st → Reaches (at + length l) (from O32 bodies at st n l)
+reaches bodies [] at n st h = record { long = omega (arith, held-place at n st h); fits = h .fits }
+reaches bodies (b ∷ l) at (suc n) st h =
+    subst (λ (m : ℕ). Reaches m (from O32 bodies (suc at) st n l)) (omega arith)
+    (reaches bodies l (suc at) n st (record { before = omega (arith, h .before); fits = h .fits; few = h .few }))
+reaches bodies (k ∷ l) at zero st h = go (O32 .step st k) (grows st (kindOf k) (kind-sound k)) (λ n st′ w. reaches bodies l (suc at) n st′ w)
+  where
+    here : at ≤ 1057
+    here = omega (arith, held-place at 0 st h)
+
+    fit : (p : Placement) (st′ : State) → Grown st (kindOf k) p st′ → (t u : Bool) → leb (st′ .end) 1024 ≡ u
+        → ((n : ℕ) (st″ : State) → Held (suc at) n st″ → Reaches (suc at + length l) (from O32 bodies (suc at) st″ n l))
+        → Reaches (at + length (k ∷ l)) (after O32 at k (cond t (refuse 4) (cond u (next p st′) (refuse 5))) (λ size st″. from O32 bodies (suc at) st″ (behind bodies size) l))
+    fit p st′ g true u f rest = here
+    fit p st′ g false false f rest = here
+    fit p st′ g false true f rest =
+        let n : ℕ = behind bodies (p .kind .size) in
+        let w : Held (suc at) n st′ = record {
+          before = omega (arith, h .before, g .more, g .size, behind-le bodies (p .kind .size));
+          fits = leb-true (st′ .end) 1024 f;
+          few = g .few (h .few);
+        } in
+        also-reaches (suc at + length l) (at + length (k ∷ l)) (O32 .placedAt k p) (from O32 bodies (suc at) st′ n l) (omega arith) (rest n st′ w)
+
+    go : (s : Step Placement State) → Grows st (kindOf k) s
+        → ((n : ℕ) (st′ : State) → Held (suc at) n st′ → Reaches (suc at + length l) (from O32 bodies (suc at) st′ n l))
+        → Reaches (at + length (k ∷ l)) (after O32 at k (limited O32 bodies (length l) k s) (λ size st′. from O32 bodies (suc at) st′ (behind bodies size) l))
+    go (refuse r) g rest = here
+    go (next p st′) g rest = fit p st′ g (ltb (length l) (behind bodies (p .kind .size))) (leb (st′ .end) 1024) refl rest
+
+-- ---- a whole list or signature
+
+module _ (bodies : Bool) (l : List ℕ) where
+  planned : Reaches (0 + length l) (plan O32 bodies l)
+  planned = reaches bodies l 0 0 (O32 .start) (record { before = omega arith; fits = omega arith; few = omega arith })
+
+  pub place-bound : (r p : ℕ) → plan O32 bodies l ≡ bad r p → p ≤ 1057
+  place-bound r p e = subst (Reaches (0 + length l)) e planned
+
+  pub plan-bound : (L : List Placed) (last : State) → plan O32 bodies l ≡ good L last → Reached (length l) last
+  plan-bound L last e =
+      let w : Reached (0 + length l) last = subst (Reaches (0 + length l)) e planned in
+      record { long = omega (arith, w .long); fits = w .fits }

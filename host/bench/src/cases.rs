@@ -1,0 +1,172 @@
+//! What is timed.
+
+use std::hint::black_box;
+
+/// Enough for every image, list and code.
+const ROOM: usize = 1100;
+
+/// One call, with its inputs.
+pub enum Call {
+    Write { list: Vec<u8> },
+    Read { signature: Vec<u8>, image: Vec<u8> },
+    Prologue(o32::Request),
+    Epilogue(o32::Request),
+}
+
+/// A call and its result.
+pub struct Case {
+    pub name: String,
+    call: Call,
+    result: Vec<u8>,
+}
+
+impl Case {
+    fn new(name: String, call: Call) -> Self {
+        let mut case = Case {
+            name,
+            call,
+            result: vec![0; ROOM],
+        };
+        let mut result = vec![0; ROOM];
+        let length = case.run_model(&mut result);
+        result.truncate(length as usize);
+        case.result = result;
+        case
+    }
+
+    /// Bytes of the result.
+    pub fn length(&self) -> usize {
+        self.result.len()
+    }
+
+    /// A buffer for the results of one of the three.
+    pub fn buffer(&self) -> Vec<u8> {
+        vec![0; ROOM]
+    }
+
+    /// A time says nothing unless the results agree.
+    pub fn check(&self) {
+        assert!(!self.result.is_empty(), "{}: refused", self.name);
+        let mut buffer = self.buffer();
+        let length = self.run_o32(&mut buffer);
+        assert_eq!(&buffer[..length as usize], self.result, "{}", self.name);
+    }
+
+    #[inline]
+    pub fn run_o32(&self, buffer: &mut [u8]) -> u32 {
+        let buffer = black_box(buffer);
+        match &self.call {
+            Call::Write { list } => o32::write(black_box(list), buffer),
+            Call::Read { signature, image } => {
+                o32::read(black_box(signature), black_box(image), buffer)
+            }
+            Call::Prologue(request) => o32::prologue(black_box(*request), buffer),
+            Call::Epilogue(request) => o32::epilogue(black_box(*request), buffer),
+        }
+        .length
+    }
+
+    #[inline]
+    pub fn run_model(&self, buffer: &mut [u8]) -> u32 {
+        let buffer = black_box(buffer);
+        match &self.call {
+            Call::Write { list } => model::write(black_box(list), buffer),
+            Call::Read { signature, image } => {
+                model::read(black_box(signature), black_box(image), buffer)
+            }
+            Call::Prologue(request) => model::prologue(model_request(black_box(request)), buffer),
+            Call::Epilogue(request) => model::epilogue(model_request(black_box(request)), buffer),
+        }
+        .length
+    }
+
+    /// Copies the finished result.
+    #[inline]
+    pub fn run_copy(&self, buffer: &mut [u8]) -> u32 {
+        let buffer = black_box(buffer);
+        let result = black_box(&self.result[..]);
+        buffer[..result.len()].copy_from_slice(result);
+        result.len() as u32
+    }
+}
+
+fn model_request(request: &o32::Request) -> model::Request {
+    model::Request {
+        leaf: request.leaf != 0,
+        locals: request.locals,
+        outgoing: request.outgoing,
+        general: request.general,
+        pairs: request.pairs,
+    }
+}
+
+/// Lists by name, each with its signature.
+fn lists() -> Vec<(&'static str, Vec<u8>, Vec<u8>)> {
+    // Doubles and singles first, so that the floating registers are in use.
+    let mixed: [&[u8]; 9] = [
+        &[0x08, 0x3F, 0xF0, 0, 0, 0, 0, 0, 0],
+        &[0x07, 0x3F, 0x80, 0, 0],
+        &[0x01, 0x80],
+        &[0x02, 0x80],
+        &[0x03, 0x80, 0x01],
+        &[0x04, 0x80, 0x01],
+        &[0x0A],
+        &[0x45, 1, 2, 3, 4, 5, 6],
+        &[0x06, 1, 2, 3, 4, 5, 6, 7, 8],
+    ];
+    let word: &[u8] = &[0x05, 1, 2, 3, 4];
+    let structure: Vec<u8> = std::iter::once(0xFF)
+        .chain((0..512).map(|i| i as u8))
+        .collect();
+    [
+        ("3 words", vec![word; 3]),
+        ("32 words", vec![word; 32]),
+        ("two FF structures", vec![&structure[..]; 2]),
+        ("mixed list", mixed.to_vec()),
+    ]
+    .into_iter()
+    .map(|(name, records)| {
+        let signature = records.iter().map(|record| record[0]).collect();
+        (name, records.concat(), signature)
+    })
+    .collect()
+}
+
+/// A function that saves everything it may.
+const FULL_FRAME: o32::Request = o32::Request {
+    leaf: 0,
+    locals: 100,
+    outgoing: 32,
+    general: 0xC0FF_0000,
+    pairs: 63,
+};
+
+/// The image of a list that is accepted.
+fn image_of(list: &[u8]) -> Vec<u8> {
+    let mut image = vec![0; ROOM];
+    let length = model::write(list, &mut image).length;
+    image.truncate(length as usize);
+    image
+}
+
+pub fn all() -> Vec<Case> {
+    let lists = lists();
+    let writes = lists.iter().map(|(name, list, _)| {
+        let call = Call::Write { list: list.clone() };
+        Case::new(format!("write, {name}"), call)
+    });
+    let reads = lists.iter().map(|(name, list, signature)| {
+        let call = Call::Read {
+            signature: signature.clone(),
+            image: image_of(list),
+        };
+        Case::new(format!("read, {name}"), call)
+    });
+    let codes = [
+        ("prologue, all registers", Call::Prologue(FULL_FRAME)),
+        ("epilogue, all registers", Call::Epilogue(FULL_FRAME)),
+    ]
+    .into_iter()
+    .map(|(name, call)| Case::new(String::from(name), call));
+    writes.chain(reads).chain(codes).collect()
+}

@@ -1,0 +1,220 @@
+/*
+ * A worked example: a call image written and read back, and a frame's code.
+ *
+ * Every buffer comes from malloc with exactly the length that is passed on, so
+ * that a memory checker sees a byte read or written too far.
+ */
+
+#include "o32.h"
+
+#include <stdio.h>
+#include <stdlib.h>
+#include <string.h>
+
+static int passed;
+static int failed;
+
+/* Counts a check and says how it went. */
+static void check(int holds, const char *what)
+{
+    if (holds) {
+        passed++;
+    } else {
+        failed++;
+    }
+    printf("%s: %s\n", holds ? "ok" : "WRONG", what);
+}
+
+/* A buffer of its own, filled with a byte that no result here consists of. */
+static uint8_t *buffer(size_t length)
+{
+    uint8_t *bytes = malloc(length > 0 ? length : 1);
+    if (bytes == NULL) {
+        fputs("out of memory\n", stderr);
+        exit(2);
+    }
+    memset(bytes, 0xA5, length);
+    return bytes;
+}
+
+static uint8_t *copy_of(const uint8_t *content, size_t length)
+{
+    uint8_t *bytes = buffer(length);
+    memcpy(bytes, content, length);
+    return bytes;
+}
+
+static int all_are(const uint8_t *bytes, size_t length, uint8_t value)
+{
+    for (size_t i = 0; i < length; i++) {
+        if (bytes[i] != value) {
+            return 0;
+        }
+    }
+    return 1;
+}
+
+static int is_answer(o32_answer answer, uint32_t refusal, uint32_t place,
+                     uint32_t length)
+{
+    return answer.refusal == refusal && answer.place == place &&
+           answer.length == length;
+}
+
+static uint32_t word_at(const uint8_t *bytes, size_t index)
+{
+    const uint8_t *b = bytes + 4 * index;
+    return (uint32_t)b[0] << 24 | (uint32_t)b[1] << 16 | (uint32_t)b[2] << 8 |
+           (uint32_t)b[3];
+}
+
+static void print_words(const char *name, const uint8_t *bytes, size_t count)
+{
+    printf("%s:", name);
+    for (size_t i = 0; i < count; i++) {
+        printf(" %08lX", (unsigned long)word_at(bytes, i));
+    }
+    putchar('\n');
+}
+
+static int are_words(const uint8_t *bytes, const uint32_t *words, size_t count)
+{
+    for (size_t i = 0; i < count; i++) {
+        if (word_at(bytes, i) != words[i]) {
+            return 0;
+        }
+    }
+    return 1;
+}
+
+/* The word 9 and a structure of six bytes: $4, $5 and $6. */
+static void call_image(void)
+{
+    static const uint8_t list[] = {0x05, 0, 0, 0, 9, 0x45, 1, 2, 3, 4, 5, 6};
+    static const uint8_t kinds[] = {0x05, 0x45};
+    static const uint32_t words[12] = {0x00000009, 0x01020304, 0x05060000};
+
+    uint8_t *given = copy_of(list, sizeof list);
+    uint8_t *image = buffer(48);
+    check(is_answer(o32_write(given, sizeof list, image, 48), 0, 0, 48),
+          "the list is written to an image of 48 bytes");
+    print_words("$4 to $7", image, 4);
+    print_words("$f12 to $f15", image + 16, 4);
+    print_words("argument area", image + 32, 4);
+    check(are_words(image, words, 12), "the image has the expected words");
+
+    uint8_t *signature = copy_of(kinds, sizeof kinds);
+    uint8_t *reading = buffer(sizeof list);
+    check(is_answer(o32_read(signature, sizeof kinds, image, 48, reading,
+                             sizeof list),
+                    0, 0, sizeof list),
+          "the image is read back");
+    check(memcmp(reading, list, sizeof list) == 0,
+          "the reading is the list that was written");
+    check(memcmp(given, list, sizeof list) == 0 &&
+              memcmp(signature, kinds, sizeof kinds) == 0,
+          "list and signature are as they were");
+
+    free(reading);
+    free(signature);
+    free(image);
+    free(given);
+}
+
+/* An empty buffer may be a null pointer. */
+static void empty_buffers(void)
+{
+    uint8_t *image = buffer(48);
+    check(is_answer(o32_write(NULL, 0, image, 48), 0, 0, 48) &&
+              all_are(image, 48, 0),
+          "the empty list gives 48 zero bytes");
+    check(is_answer(o32_read(NULL, 0, image, 48, NULL, 0), 0, 0, 0),
+          "which read as the empty list");
+    check(is_answer(o32_write(NULL, 0, NULL, 0), O32_SHORT_OUTPUT, 0, 0),
+          "and don't go into an empty buffer");
+    check(is_answer(o32_read(NULL, 0, NULL, 0, NULL, 0), O32_IMAGE_LENGTH, 0, 0),
+          "no image has length 0");
+    check(is_answer(o32_prologue(1, 0, 0, 0, 0, NULL, 0), 0, 0, 0),
+          "a leaf without a frame has an empty prologue");
+    check(is_answer(o32_epilogue(1, 0, 0, 0, 0, NULL, 0), O32_SHORT_CODE, 0, 0),
+          "but no empty epilogue");
+    free(image);
+}
+
+/* A refusal says where, and leaves the output alone. */
+static void refusals(void)
+{
+    static const uint8_t list[] = {0x01, 0x80, 0x05, 0x00};
+    static const uint8_t kinds[] = {0x01};
+
+    uint8_t *given = copy_of(list, sizeof list);
+    uint8_t *image = buffer(48);
+    check(is_answer(o32_write(given, sizeof list, image, 48), O32_BODY_CUT_OFF,
+                    2, 0) &&
+              all_are(image, 48, 0xA5),
+          "a list that is cut off is refused, the image buffer stays");
+
+    memset(image, 0, 48);
+    image[3] = 0x80;
+    uint8_t *signature = copy_of(kinds, sizeof kinds);
+    uint8_t *reading = buffer(2);
+    check(is_answer(o32_read(signature, 1, image, 48, reading, 2),
+                    O32_NO_PROMOTION, 0, 0) &&
+              all_are(reading, 2, 0xA5),
+          "00000080 is no signed byte, the list buffer stays");
+
+    free(reading);
+    free(signature);
+    free(image);
+    free(given);
+}
+
+/* A function that calls others, saves $16 and has one word of locals. */
+static void example_frame(void)
+{
+    static const uint32_t prologue[] = {0x27BDFFE0, 0xAFB00010, 0xAFBF0014};
+    static const uint32_t epilogue[] = {0x8FB00010, 0x8FBF0014, 0x03E00008,
+                                        0x27BD0020};
+    const uint32_t general = UINT32_C(1) << 16 | UINT32_C(1) << 31;
+
+    o32_layout layout = o32_frame(0, 4, 0, general, 0);
+    printf("frame %lu: build area of %lu, saves at %lu and %lu, locals at %lu\n",
+           (unsigned long)layout.frame, (unsigned long)layout.build,
+           (unsigned long)layout.floating, (unsigned long)layout.general,
+           (unsigned long)layout.locals);
+    check(layout.refusal == 0 && layout.place == 0 && layout.frame == 32 &&
+              layout.build == 16 && layout.floating == 16 &&
+              layout.general == 16 && layout.locals == 24,
+          "the frame is laid out as expected");
+
+    uint8_t *code = buffer(12);
+    check(is_answer(o32_prologue(0, 4, 0, general, 0, code, 12), 0, 0, 12) &&
+              are_words(code, prologue, 3),
+          "the prologue is as expected");
+    print_words("prologue", code, 3);
+    free(code);
+
+    code = buffer(16);
+    check(is_answer(o32_epilogue(0, 4, 0, general, 0, code, 16), 0, 0, 16) &&
+              are_words(code, epilogue, 4),
+          "the epilogue is as expected");
+    print_words("epilogue", code, 4);
+    free(code);
+
+    layout = o32_frame(0, 4, 0, UINT32_C(1) << 16, 0);
+    check(layout.refusal == O32_RETURN_ADDRESS_NOT_SAVED && layout.place == 0 &&
+              layout.frame == 0 && layout.build == 0 && layout.floating == 0 &&
+              layout.general == 0 && layout.locals == 0,
+          "without $31 the frame is refused");
+    check(o32_frame(2, 0, 0, 0, 0).refusal == 0, "any leaf but 0 is a leaf");
+}
+
+int main(void)
+{
+    call_image();
+    empty_buffers();
+    refusals();
+    example_frame();
+    printf("%d passed, %d failed\n", passed, failed);
+    return failed == 0 ? EXIT_SUCCESS : EXIT_FAILURE;
+}

@@ -1,0 +1,220 @@
+//! Groups about frames.
+
+use o32::Request;
+
+use crate::comparison::{model_code, Code, Comparison};
+use crate::lists::LONG;
+use crate::rng::Rng;
+
+/// `$16` to `$23`, `$30` and `$31`.
+const ALL_REGISTERS: u32 = 0xC0FF_0000;
+const RETURN_ADDRESS: u32 = 1 << 31;
+
+/// More than any prologue or epilogue has.
+const CODE_ROOM: usize = 128;
+
+const LEAVES: [u32; 5] = [0, 1, 2, 0x8000_0000, u32::MAX];
+
+/// At, below and beyond the limits, and what would overflow a sum.
+const LOCALS: [u32; 16] = [
+    0,
+    1,
+    3,
+    4,
+    7,
+    8,
+    9,
+    16_376,
+    16_377,
+    16_383,
+    16_384,
+    16_385,
+    0x7FFF_FFFF,
+    0x8000_0000,
+    u32::MAX - 7,
+    u32::MAX,
+];
+
+const OUTGOING: [u32; 15] = [
+    0,
+    1,
+    7,
+    8,
+    9,
+    15,
+    16,
+    17,
+    1_016,
+    1_017,
+    1_023,
+    1_024,
+    1_025,
+    u32::MAX - 7,
+    u32::MAX,
+];
+
+const GENERAL: [u32; 9] = [
+    0,
+    RETURN_ADDRESS,
+    RETURN_ADDRESS | 1 << 16,
+    1 << 30,
+    ALL_REGISTERS,
+    ALL_REGISTERS & !RETURN_ADDRESS,
+    ALL_REGISTERS | 1 << 15,
+    ALL_REGISTERS | 1 << 29,
+    u32::MAX,
+];
+
+const PAIRS: [u32; 7] = [0, 1, 0b10_0001, 63, 64, 127, u32::MAX];
+
+/// A layout and both codes in buffers that are long enough.
+fn all_three(comparison: &mut Comparison, request: Request) {
+    comparison.frame(request);
+    for code in Code::BOTH {
+        comparison.code(code, request, CODE_ROOM);
+    }
+}
+
+pub fn at_the_limits(comparison: &mut Comparison, _: &mut Rng) {
+    for leaf in LEAVES {
+        for locals in LOCALS {
+            for outgoing in OUTGOING {
+                for general in GENERAL {
+                    for pairs in PAIRS {
+                        let request = Request {
+                            leaf,
+                            locals,
+                            outgoing,
+                            general,
+                            pairs,
+                        };
+                        all_three(comparison, request);
+                    }
+                }
+            }
+        }
+    }
+}
+
+/// The masks of no, one or two registers, outside the saved ones too.
+fn small_masks() -> impl Iterator<Item = u32> {
+    let one = (0..32).map(|a| 1 << a);
+    let two = (0..32).flat_map(|a| (0..a).map(move |b| 1 << a | 1 << b));
+    std::iter::once(0).chain(one).chain(two)
+}
+
+pub fn small_masks_and_all_pairs(comparison: &mut Comparison, rng: &mut Rng) {
+    for general in small_masks() {
+        for pairs in 0..=70 {
+            let leaf = u32::from(general & RETURN_ADDRESS == 0);
+            let request = Request {
+                leaf,
+                locals: rng.below(40) as u32,
+                outgoing: (1 - leaf) * rng.below(40) as u32,
+                general,
+                pairs,
+            };
+            all_three(comparison, request);
+        }
+        // Not a leaf, whether or not it saves its return address.
+        let request = Request {
+            general,
+            ..Request::default()
+        };
+        all_three(comparison, request);
+    }
+}
+
+/// All masks of the registers that may be saved.
+pub fn saved_masks(comparison: &mut Comparison, rng: &mut Rng) {
+    for bits in 0..1 << 10 {
+        for pairs in [0, 63, rng.below(64) as u32] {
+            let request = Request {
+                leaf: rng.below(2) as u32,
+                general: (bits & 0xFF) << 16 | bits >> 8 << 30,
+                pairs,
+                ..Request::default()
+            };
+            all_three(comparison, request);
+        }
+    }
+}
+
+/// A number that is mostly within a limit, often at it.
+fn number(rng: &mut Rng, limit: u32) -> u32 {
+    match rng.below(10) {
+        0 => 0,
+        1 => limit - rng.below(10) as u32,
+        2 => limit + rng.below(10) as u32,
+        3 => rng.word(),
+        _ => rng.below(limit as usize + 1) as u32,
+    }
+}
+
+fn random_request(rng: &mut Rng) -> Request {
+    let wild = rng.percent(15);
+    let leaf = rng.percent(40);
+    let mut general = rng.word() & ALL_REGISTERS;
+    if !leaf && rng.percent(90) {
+        general |= RETURN_ADDRESS;
+    }
+    if wild {
+        general ^= 1 << rng.below(32);
+    }
+    Request {
+        leaf: if leaf { rng.pick(&[1, 1, 2, 256]) } else { 0 },
+        locals: number(rng, 16_384),
+        outgoing: if leaf && rng.percent(80) {
+            0
+        } else {
+            number(rng, 1_024)
+        },
+        general,
+        pairs: rng.below(if wild { 80 } else { 64 }) as u32,
+    }
+}
+
+pub fn random(comparison: &mut Comparison, rng: &mut Rng) {
+    for _ in 0..60_000 {
+        let request = random_request(rng);
+        comparison.frame(request);
+        for code in Code::BOTH {
+            comparison.code(code, request, rng.below(CODE_ROOM));
+        }
+    }
+}
+
+/// A leaf that needs no frame, and a function that saves all it may.
+const SMALLEST_AND_LARGEST: [Request; 2] = [
+    Request {
+        leaf: 1,
+        locals: 0,
+        outgoing: 0,
+        general: 0,
+        pairs: 0,
+    },
+    Request {
+        leaf: 0,
+        locals: 16_384,
+        outgoing: 1_024,
+        general: ALL_REGISTERS,
+        pairs: 63,
+    },
+];
+
+/// Every code buffer length from none to a little beyond the code, and some
+/// that don't fit into sixteen bits.
+pub fn buffers(comparison: &mut Comparison, rng: &mut Rng) {
+    let random: Vec<Request> = (0..1_000).map(|_| random_request(rng)).collect();
+    for request in SMALLEST_AND_LARGEST.into_iter().chain(random) {
+        for code in Code::BOTH {
+            let length = model_code(code, request, &mut [0; CODE_ROOM]).length as usize;
+            for room in 0..=length + 3 {
+                comparison.code(code, request, room);
+            }
+            if rng.percent(20) {
+                comparison.code(code, request, LONG + rng.below(CODE_ROOM));
+            }
+        }
+    }
+}

@@ -1,0 +1,103 @@
+//! The writer and the reader of call images.
+
+use crate::kind::{Kind, Promotion};
+use crate::records::{Plan, Record};
+use crate::{Answer, Refusal};
+
+/// Turns an argument list into a call image at the start of `image`.
+pub fn write(list: &[u8], image: &mut [u8]) -> Answer {
+    Answer::from_result(write_image(list, image))
+}
+
+/// Reads a call image back under a signature, as a list at the start of `list`.
+pub fn read(signature: &[u8], image: &[u8], list: &mut [u8]) -> Answer {
+    Answer::from_result(read_image(signature, image, list))
+}
+
+fn write_image(list: &[u8], image: &mut [u8]) -> Result<usize, Refusal> {
+    let plan = Plan::of_list(list)?;
+    let length = plan.lengths().image;
+    let image = image
+        .get_mut(..length)
+        .ok_or(Refusal::nowhere(Refusal::SHORT_OUTPUT))?;
+
+    // What carries nothing is zero: holes, fill, homes and unused registers.
+    image.fill(0);
+    for record in plan.records() {
+        let body = &list[record.place + 1..][..record.kind.body()];
+        match record.kind {
+            Kind::Marker => {}
+            Kind::Short(promotion) => {
+                record.placement.put(&promoted(promotion, body), image);
+            }
+            _ => record.placement.put(body, image),
+        }
+    }
+    Ok(length)
+}
+
+fn read_image(signature: &[u8], image: &[u8], list: &mut [u8]) -> Result<usize, Refusal> {
+    let plan = Plan::of_signature(signature)?;
+    let lengths = plan.lengths();
+    if image.len() != lengths.image {
+        return Err(Refusal::nowhere(Refusal::IMAGE_LENGTH));
+    }
+    let list = list
+        .get_mut(..lengths.list)
+        .ok_or(Refusal::nowhere(Refusal::SHORT_OUTPUT))?;
+    // Nothing may be written before every word has been looked at.
+    for record in plan.records() {
+        check_promotion(record, image)?;
+    }
+
+    let mut rest = list;
+    for record in plan.records() {
+        let (head, tail) = rest.split_at_mut(1 + record.kind.body());
+        let (kind_byte, body) = head.split_at_mut(1);
+        kind_byte[0] = signature[record.place];
+        take_body(record, image, body);
+        rest = tail;
+    }
+    Ok(lengths.list)
+}
+
+/// Refuses a word of a byte or halfword that promotion can't have made.
+fn check_promotion(record: &Record, image: &[u8]) -> Result<(), Refusal> {
+    match record.kind {
+        Kind::Short(promotion) if !is_proper(promotion, word_of(record, image)) => {
+            Err(Refusal::at(Refusal::NO_PROMOTION, record.place))
+        }
+        _ => Ok(()),
+    }
+}
+
+fn is_proper(promotion: Promotion, word: u32) -> bool {
+    promotion.extend(word) == word
+}
+
+/// Fills `body` with the argument as it stood before promotion.
+fn take_body(record: &Record, image: &[u8], body: &mut [u8]) {
+    match record.kind {
+        Kind::Marker => {}
+        Kind::Short(_) => {
+            let word = word_of(record, image).to_be_bytes();
+            body.copy_from_slice(&word[word.len() - body.len()..]);
+        }
+        _ => record.placement.get(image, body),
+    }
+}
+
+/// The word that a byte or halfword is promoted to.
+fn promoted(promotion: Promotion, body: &[u8]) -> [u8; 4] {
+    let value = body
+        .iter()
+        .fold(0, |value, &byte| value << 8 | u32::from(byte));
+    promotion.extend(value).to_be_bytes()
+}
+
+/// The word of an argument of four bytes.
+fn word_of(record: &Record, image: &[u8]) -> u32 {
+    let mut word = [0; 4];
+    record.placement.get(image, &mut word);
+    u32::from_be_bytes(word)
+}

@@ -1,0 +1,91 @@
+//! Call images and frames of the MIPS O32 convention in ordinary Rust.
+//!
+//! This is the yardstick for the proved library: the same five operations with
+//! the same answers, written from the rules alone. Every operation checks
+//! first and writes into the caller's buffer only when nothing refuses.
+
+mod frame;
+mod image;
+mod kind;
+mod placement;
+mod records;
+
+pub use frame::{epilogue, frame, prologue, Layout, Request};
+pub use image::{read, write};
+
+use records::Plan;
+
+/// What a writer, a reader or a code writer answers.
+#[derive(Clone, Copy, Debug, Default, PartialEq, Eq)]
+pub struct Answer {
+    /// 0 on success, otherwise the number of the refusal.
+    pub refusal: u32,
+    /// Offset of the refused kind byte, 0 where the refusal has no place.
+    pub place: u32,
+    /// Bytes written, 0 on a refusal.
+    pub length: u32,
+}
+
+impl Answer {
+    fn from_result(result: Result<usize, Refusal>) -> Self {
+        match result {
+            Ok(length) => Answer {
+                length: length as u32,
+                ..Answer::default()
+            },
+            Err(Refusal { number, place }) => Answer {
+                refusal: number,
+                // No list gets further than its limits, some 1,600 bytes.
+                place: place as u32,
+                length: 0,
+            },
+        }
+    }
+}
+
+/// Why an operation refuses, and where.
+#[derive(Clone, Copy, Debug, PartialEq, Eq)]
+pub(crate) struct Refusal {
+    number: u32,
+    place: usize,
+}
+
+impl Refusal {
+    pub(crate) const UNKNOWN_KIND: u32 = 1;
+    pub(crate) const MISPLACED: u32 = 2;
+    pub(crate) const TOO_MANY_ARGUMENTS: u32 = 3;
+    pub(crate) const CUT_OFF: u32 = 4;
+    pub(crate) const BEYOND_LIMIT: u32 = 5;
+    pub(crate) const IMAGE_LENGTH: u32 = 6;
+    pub(crate) const SHORT_OUTPUT: u32 = 7;
+    pub(crate) const NO_PROMOTION: u32 = 8;
+    pub(crate) const MASKS: u32 = 9;
+    pub(crate) const RETURN_ADDRESS_NOT_SAVED: u32 = 10;
+    pub(crate) const LOCALS: u32 = 11;
+    pub(crate) const OUTGOING: u32 = 12;
+    pub(crate) const SHORT_CODE: u32 = 13;
+
+    pub(crate) fn at(number: u32, place: usize) -> Self {
+        Refusal { number, place }
+    }
+
+    pub(crate) fn nowhere(number: u32) -> Self {
+        Refusal { number, place: 0 }
+    }
+}
+
+/// The lengths that go with an accepted signature.
+#[derive(Clone, Copy, Debug, PartialEq, Eq)]
+pub struct Lengths {
+    /// Bytes of the call image.
+    pub image: usize,
+    /// Bytes of the list that the image reads as.
+    pub list: usize,
+}
+
+/// The lengths for a signature, if none of its kinds is refused.
+pub fn lengths(signature: &[u8]) -> Option<Lengths> {
+    Plan::of_signature(signature)
+        .ok()
+        .map(|plan| plan.lengths())
+}

@@ -1,0 +1,198 @@
+//! Where an argument lies in the call image.
+
+use crate::kind::Kind;
+
+/// The register words `$4` to `$7`, then `$f12` to `$f15`.
+pub(crate) const REGISTER_BYTES: usize = 32;
+
+/// Argument bytes below this offset are carried by `$4` to `$7`.
+const GENERAL_BYTES: usize = 16;
+
+/// Where the argument area's first bytes on the stack lie in the image.
+const STACK_START: usize = REGISTER_BYTES + GENERAL_BYTES;
+
+/// The words `$f12` and `$f14` in the image; each begins a pair.
+const FLOATING_PAIRS: [usize; 2] = [16, 24];
+
+/// Where the last argument may end.
+const END_LIMIT: usize = 1024;
+
+/// The image bytes that carry an argument.
+#[derive(Clone, Copy, Debug, Default, PartialEq, Eq)]
+pub(crate) struct Placement {
+    /// Image offset of the argument's first byte.
+    start: usize,
+    /// How many bytes lie there; the rest begins the stack.
+    together: usize,
+}
+
+impl Placement {
+    /// In a floating register or pair.
+    fn floating(pair: usize, size: usize) -> Self {
+        Placement {
+            start: pair,
+            together: size,
+        }
+    }
+
+    /// At an offset of the argument area, of which the first words are in
+    /// registers.
+    fn at_offset(offset: usize, size: usize) -> Self {
+        if offset < GENERAL_BYTES {
+            Placement {
+                start: offset,
+                together: size.min(GENERAL_BYTES - offset),
+            }
+        } else {
+            Placement {
+                start: REGISTER_BYTES + offset,
+                together: size,
+            }
+        }
+    }
+
+    /// Puts the argument's bytes where the image carries them.
+    pub(crate) fn put(&self, bytes: &[u8], image: &mut [u8]) {
+        let (here, on_stack) = bytes.split_at(self.together);
+        copy(here, &mut image[self.start..]);
+        copy(on_stack, &mut image[STACK_START..]);
+    }
+
+    /// Gets the argument's bytes from where the image carries them.
+    pub(crate) fn get(&self, image: &[u8], bytes: &mut [u8]) {
+        let (here, on_stack) = bytes.split_at_mut(self.together);
+        copy_all(&image[self.start..], here);
+        copy_all(&image[STACK_START..], on_stack);
+    }
+}
+
+/// Copies all of `from` to the start of `to`.
+///
+/// Most pieces are nothing, a word or a doubleword, and a copy whose size is
+/// known beforehand needs no call.
+fn copy(from: &[u8], to: &mut [u8]) {
+    match from.len() {
+        0 => {}
+        4 => to[..4].copy_from_slice(&from[..4]),
+        8 => to[..8].copy_from_slice(&from[..8]),
+        length => to[..length].copy_from_slice(from),
+    }
+}
+
+/// Fills all of `to` from the start of `from`.
+fn copy_all(from: &[u8], to: &mut [u8]) {
+    copy(&from[..to.len()], to);
+}
+
+/// Lays arguments out one behind the other, as members of a structure.
+#[derive(Clone, Debug, Default)]
+pub(crate) struct ArgumentArea {
+    /// End of the last argument, fill included.
+    end: usize,
+    /// Arguments placed so far.
+    arguments: usize,
+    /// How many of them went to floating registers.
+    floating: usize,
+    /// Arguments from here on match the ellipsis.
+    variable: bool,
+}
+
+impl ArgumentArea {
+    pub(crate) fn arguments(&self) -> usize {
+        self.arguments
+    }
+
+    pub(crate) fn is_variable(&self) -> bool {
+        self.variable
+    }
+
+    /// Passes the ellipsis marker.
+    pub(crate) fn pass_marker(&mut self) {
+        self.variable = true;
+    }
+
+    /// Places the next argument, or gives `None` if it would end beyond the
+    /// limit.
+    pub(crate) fn place(&mut self, kind: Kind) -> Option<Placement> {
+        let size = kind.size();
+        let offset = align_up(self.end, kind.alignment());
+        let end = align_up(offset + size, 4);
+        if end > END_LIMIT {
+            return None;
+        }
+        let placement = match self.floating_pair(kind) {
+            Some(pair) => {
+                self.floating += 1;
+                Placement::floating(pair, size)
+            }
+            None => Placement::at_offset(offset, size),
+        };
+        self.arguments += 1;
+        self.end = end;
+        Some(placement)
+    }
+
+    /// The pair for the next argument. Only the first two arguments get one,
+    /// the second only if the first has one too, and none after the marker.
+    fn floating_pair(&self, kind: Kind) -> Option<usize> {
+        let only_floats_so_far = self.floating == self.arguments;
+        if kind.is_floating() && only_floats_so_far && !self.variable {
+            FLOATING_PAIRS.get(self.arguments).copied()
+        } else {
+            None
+        }
+    }
+
+    /// The area's size: whole doublewords, and room for the four homes.
+    pub(crate) fn size(&self) -> usize {
+        align_up(self.end, 8).max(GENERAL_BYTES)
+    }
+}
+
+/// The next multiple of an alignment, which is a power of two.
+fn align_up(offset: usize, alignment: usize) -> usize {
+    (offset + alignment - 1) & !(alignment - 1)
+}
+
+#[cfg(test)]
+mod tests {
+    use super::*;
+
+    fn place_all(kinds: &[Kind]) -> (Vec<(usize, usize)>, usize) {
+        let mut area = ArgumentArea::default();
+        let placements = kinds
+            .iter()
+            .map(|&kind| area.place(kind).expect("within the limit"))
+            .map(|placement| (placement.start, placement.together))
+            .collect();
+        (placements, area.size())
+    }
+
+    #[test]
+    fn a_structure_is_split_between_registers_and_stack() {
+        let (placements, size) = place_all(&[Kind::Word, Kind::Structure(20)]);
+        assert_eq!(placements, [(0, 4), (4, 12)]);
+        assert_eq!(size, 24);
+
+        let mut image = [0; 56];
+        let bytes: Vec<u8> = (1..=20).collect();
+        Placement::at_offset(4, 20).put(&bytes, &mut image);
+        assert_eq!(image[4..16], bytes[..12]);
+        assert_eq!(image[48..56], bytes[12..]);
+    }
+
+    #[test]
+    fn a_third_float_goes_by_its_offset() {
+        let (placements, size) = place_all(&[Kind::Single, Kind::Double, Kind::Single]);
+        assert_eq!(placements, [(16, 4), (24, 8), (48, 4)]);
+        assert_eq!(size, 24);
+    }
+
+    #[test]
+    fn a_float_behind_an_integer_gets_no_floating_register() {
+        let (placements, _) = place_all(&[Kind::Word, Kind::Single]);
+        assert_eq!(placements, [(0, 4), (4, 4)]);
+        let (placements, _) = place_all(&[Kind::Single, Kind::Word, Kind::Single]);
+        assert_eq!(placements, [(16, 4), (4, 4), (8, 4)]);
+    }
+}

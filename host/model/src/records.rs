@@ -1,0 +1,145 @@
+//! Lists and signatures, one record at a time.
+
+use crate::kind::Kind;
+use crate::placement::{ArgumentArea, Placement, REGISTER_BYTES};
+use crate::{Lengths, Refusal};
+
+/// Arguments in a list, a return pointer counted and the marker not.
+const ARGUMENT_LIMIT: usize = 32;
+
+/// All arguments and the marker.
+const RECORD_LIMIT: usize = ARGUMENT_LIMIT + 1;
+
+/// Whether bodies stand behind the kind bytes.
+#[derive(Clone, Copy, Debug, PartialEq, Eq)]
+enum Form {
+    List,
+    Signature,
+}
+
+/// A record that nothing refuses.
+#[derive(Clone, Copy, Debug)]
+pub(crate) struct Record {
+    /// Offset of the kind byte.
+    pub(crate) place: usize,
+    pub(crate) kind: Kind,
+    /// Of no account for the marker, which is no argument.
+    pub(crate) placement: Placement,
+}
+
+/// The records of an accepted list or signature, each with its placement.
+pub(crate) struct Plan {
+    records: [Record; RECORD_LIMIT],
+    count: usize,
+    area: ArgumentArea,
+    has_return_pointer: bool,
+}
+
+impl Plan {
+    /// The plan for a list.
+    #[inline]
+    pub(crate) fn of_list(list: &[u8]) -> Result<Plan, Refusal> {
+        let mut plan = Plan::empty();
+        plan.take_all(list, Form::List)?;
+        Ok(plan)
+    }
+
+    /// The plan for a signature.
+    #[inline]
+    pub(crate) fn of_signature(signature: &[u8]) -> Result<Plan, Refusal> {
+        let mut plan = Plan::empty();
+        plan.take_all(signature, Form::Signature)?;
+        Ok(plan)
+    }
+
+    #[inline]
+    fn empty() -> Plan {
+        let unused = Record {
+            place: 0,
+            kind: Kind::Marker,
+            placement: Placement::default(),
+        };
+        Plan {
+            records: [unused; RECORD_LIMIT],
+            count: 0,
+            area: ArgumentArea::default(),
+            has_return_pointer: false,
+        }
+    }
+
+    pub(crate) fn records(&self) -> &[Record] {
+        &self.records[..self.count]
+    }
+
+    /// The lengths of image and list, the list's with all bodies.
+    pub(crate) fn lengths(&self) -> Lengths {
+        Lengths {
+            image: REGISTER_BYTES + self.area.size(),
+            list: self
+                .records()
+                .iter()
+                .map(|record| 1 + record.kind.body())
+                .sum(),
+        }
+    }
+
+    fn take_all(&mut self, bytes: &[u8], form: Form) -> Result<(), Refusal> {
+        let mut next = 0;
+        while let Some(&byte) = bytes.get(next) {
+            let room = bytes.len() - next - 1;
+            let place = next;
+            let kind = self
+                .take(byte, place, form, room)
+                .map_err(|number| Refusal::at(number, place))?;
+            next += match form {
+                Form::List => 1 + kind.body(),
+                Form::Signature => 1,
+            };
+        }
+        Ok(())
+    }
+
+    /// Takes the record of a kind byte with `room` bytes behind it, or gives
+    /// the refusal's number.
+    fn take(&mut self, byte: u8, place: usize, form: Form, room: usize) -> Result<Kind, u32> {
+        let kind = Kind::of(byte).ok_or(Refusal::UNKNOWN_KIND)?;
+        if !self.may_stand_here(kind) {
+            return Err(Refusal::MISPLACED);
+        }
+        if kind != Kind::Marker && self.area.arguments() == ARGUMENT_LIMIT {
+            return Err(Refusal::TOO_MANY_ARGUMENTS);
+        }
+        if form == Form::List && room < kind.body() {
+            return Err(Refusal::CUT_OFF);
+        }
+        let placement = match kind {
+            Kind::Marker => {
+                self.area.pass_marker();
+                Placement::default()
+            }
+            _ => self.area.place(kind).ok_or(Refusal::BEYOND_LIMIT)?,
+        };
+
+        self.has_return_pointer |= kind == Kind::ReturnPointer;
+        self.records[self.count] = Record {
+            place,
+            kind,
+            placement,
+        };
+        self.count += 1;
+        Ok(kind)
+    }
+
+    /// The marker stands once, behind an argument that is no return pointer; a
+    /// return pointer stands first.
+    fn may_stand_here(&self, kind: Kind) -> bool {
+        let arguments = self.area.arguments();
+        match kind {
+            Kind::Marker => {
+                !self.area.is_variable() && arguments > usize::from(self.has_return_pointer)
+            }
+            Kind::ReturnPointer => arguments == 0,
+            _ => true,
+        }
+    }
+}

@@ -1,0 +1,580 @@
+//! The cases, edges and examples that the rules spell out.
+
+use model::{epilogue, frame, prologue, read, write, Answer, Layout, Request};
+
+/// Where a word of the image lies.
+#[derive(Clone, Copy, Debug)]
+enum At {
+    /// `$4` to `$7`.
+    General(usize),
+    /// `$f12` to `$f15`.
+    Floating(usize),
+    /// An offset of the argument area.
+    Stack(usize),
+}
+
+use At::{Floating as F, General as R, Stack};
+
+impl At {
+    fn word(self) -> usize {
+        match self {
+            At::General(number) => number - 4,
+            At::Floating(number) => number - 12 + 4,
+            At::Stack(offset) => 8 + offset / 4,
+        }
+    }
+}
+
+/// Bytes from hexadecimal digits; spaces don't count.
+fn hex(text: &str) -> Vec<u8> {
+    let digits: Vec<u8> = text
+        .chars()
+        .filter(|c| !c.is_whitespace())
+        .map(|c| c.to_digit(16).expect("a hexadecimal digit") as u8)
+        .collect();
+    digits
+        .chunks(2)
+        .map(|pair| pair[0] << 4 | pair[1])
+        .collect()
+}
+
+/// The image of an area of `area` bytes with the given words, zero elsewhere.
+fn image_of(area: usize, words: &[(At, u32)]) -> Vec<u8> {
+    let mut image = vec![0; 8 + area / 4];
+    for &(at, word) in words {
+        image[at.word()] = word;
+    }
+    image.iter().flat_map(|word| word.to_be_bytes()).collect()
+}
+
+fn success(length: usize) -> Answer {
+    Answer {
+        refusal: 0,
+        place: 0,
+        length: length as u32,
+    }
+}
+
+fn refused(refusal: u32, place: u32) -> Answer {
+    Answer {
+        refusal,
+        place,
+        length: 0,
+    }
+}
+
+/// Writes into a buffer that is larger than any image and gives the image.
+fn written(list: &[u8]) -> Vec<u8> {
+    let mut buffer = [0xA5; 1100];
+    let answer = write(list, &mut buffer);
+    assert_eq!((answer.refusal, answer.place), (0, 0), "list {list:02X?}");
+    let (image, beyond) = buffer.split_at(answer.length as usize);
+    assert!(beyond.iter().all(|&byte| byte == 0xA5));
+    image.to_vec()
+}
+
+fn read_back(signature: &[u8], image: &[u8]) -> Vec<u8> {
+    let mut buffer = [0xA5; 1100];
+    let answer = read(signature, image, &mut buffer);
+    assert_eq!((answer.refusal, answer.place), (0, 0));
+    let (list, beyond) = buffer.split_at(answer.length as usize);
+    assert!(beyond.iter().all(|&byte| byte == 0xA5));
+    list.to_vec()
+}
+
+fn write_refusal(list: &[u8]) -> Answer {
+    let mut buffer = [0xA5; 1100];
+    let answer = write(list, &mut buffer);
+    assert_eq!(buffer, [0xA5; 1100]);
+    answer
+}
+
+fn read_refusal(signature: &[u8], image: &[u8], room: usize) -> Answer {
+    let mut buffer = vec![0xA5; room];
+    let answer = read(signature, image, &mut buffer);
+    assert!(buffer.iter().all(|&byte| byte == 0xA5));
+    answer
+}
+
+/// A list must give the image and the image must give the list back.
+fn check(list: &str, signature: &str, area: usize, words: &[(At, u32)]) {
+    let (list, signature) = (hex(list), hex(signature));
+    let image = image_of(area, words);
+    assert_eq!(written(&list), image, "list {list:02X?}");
+    assert_eq!(read_back(&signature, &image), list);
+}
+
+const WORD: &str = "05 00000000";
+
+fn big_structure() -> Vec<u8> {
+    let mut record = vec![0; 513];
+    record[0] = 0xFF;
+    record
+}
+
+#[test]
+fn cases_of_the_table() {
+    check("", "", 16, &[]);
+    check("01 80", "01", 16, &[(R(4), 0xFFFF_FF80)]);
+    check(
+        "08 0102030405060708 07 11121314",
+        "08 07",
+        16,
+        &[
+            (F(12), 0x0102_0304),
+            (F(13), 0x0506_0708),
+            (F(14), 0x1112_1314),
+        ],
+    );
+    check(
+        "07 11121314 08 0102030405060708",
+        "07 08",
+        16,
+        &[
+            (F(12), 0x1112_1314),
+            (F(14), 0x0102_0304),
+            (F(15), 0x0506_0708),
+        ],
+    );
+    check(
+        "07 11121314 07 21222324 08 0102030405060708",
+        "07 07 08",
+        16,
+        &[
+            (F(12), 0x1112_1314),
+            (F(14), 0x2122_2324),
+            (R(6), 0x0102_0304),
+            (R(7), 0x0506_0708),
+        ],
+    );
+    check(
+        "05 00000009 08 0102030405060708",
+        "05 08",
+        16,
+        &[(R(4), 9), (R(6), 0x0102_0304), (R(7), 0x0506_0708)],
+    );
+    check(
+        "07 00000001 05 00000002 07 00000003 05 00000004",
+        "07 05 07 05",
+        16,
+        &[(F(12), 1), (R(5), 2), (R(6), 3), (R(7), 4)],
+    );
+    check(
+        "05 00000001 05 00000002 05 00000003 08 0102030405060708",
+        "05 05 05 08",
+        24,
+        &[
+            (R(4), 1),
+            (R(5), 2),
+            (R(6), 3),
+            (Stack(16), 0x0102_0304),
+            (Stack(20), 0x0506_0708),
+        ],
+    );
+    check(
+        "07 00000001 0A 08 0102030405060708",
+        "07 0A 08",
+        16,
+        &[(F(12), 1), (R(6), 0x0102_0304), (R(7), 0x0506_0708)],
+    );
+    check(
+        "0B 00000001 08 0102030405060708",
+        "0B 08",
+        16,
+        &[(R(4), 1), (R(6), 0x0102_0304), (R(7), 0x0506_0708)],
+    );
+    check(
+        "05 00000009 45 010203040506",
+        "05 45",
+        16,
+        &[(R(4), 9), (R(5), 0x0102_0304), (R(6), 0x0506_0000)],
+    );
+    check(
+        "05 00000009 53 0102030405060708 1112131415161718 21222324",
+        "05 53",
+        24,
+        &[
+            (R(4), 9),
+            (R(5), 0x0102_0304),
+            (R(6), 0x0506_0708),
+            (R(7), 0x1112_1314),
+            (Stack(16), 0x1516_1718),
+            (Stack(20), 0x2122_2324),
+        ],
+    );
+}
+
+#[test]
+fn the_case_in_full() {
+    let list = hex("08 3FF0000000000000 05 00000007 08 4000000000000000");
+    let image = hex(
+        "00000000 00000000 00000007 00000000 3FF00000 00000000 00000000 00000000
+                     00000000 00000000 00000000 00000000 40000000 00000000",
+    );
+    assert_eq!(written(&list), image);
+    assert_eq!(image.len(), 56);
+    assert_eq!(read_back(&hex("08 05 08"), &image), list);
+}
+
+/// Where each argument of a figure's example begins.
+fn check_figure(kinds: &str, first_words: &[At]) {
+    let mut list = Vec::new();
+    let mut signature = Vec::new();
+    let mut numbers = 1..;
+    for kind in kinds.chars() {
+        let (byte, size) = match kind {
+            'n' => (0x05, 4),
+            'j' => (0x06, 8),
+            's' => (0x07, 4),
+            'd' => (0x08, 8),
+            '.' => (0x0A, 0),
+            _ => unreachable!("no such letter: {kind}"),
+        };
+        list.push(byte);
+        signature.push(byte);
+        // A number of its own in the first word tells the arguments apart.
+        if size > 0 {
+            list.extend(numbers.next().unwrap_or(0u32).to_be_bytes());
+            list.resize(list.len() + size - 4, 0);
+        }
+    }
+    let image = written(&list);
+    for (index, at) in first_words.iter().enumerate() {
+        let word = &image[4 * at.word()..][..4];
+        assert_eq!(word, (index as u32 + 1).to_be_bytes(), "{kinds}, {at:?}");
+    }
+    let carrying = image.chunks(4).filter(|word| word[3] != 0).count();
+    assert_eq!(carrying, first_words.len(), "{kinds}");
+    assert_eq!(read_back(&signature, &image), list);
+}
+
+#[test]
+fn figure_3_22() {
+    check_figure("dd", &[F(12), F(14)]);
+    check_figure("ss", &[F(12), F(14)]);
+    check_figure("sd", &[F(12), F(14)]);
+    check_figure("ds", &[F(12), F(14)]);
+    check_figure("nnnn", &[R(4), R(5), R(6), R(7)]);
+    check_figure("dnd", &[F(12), R(6), Stack(16)]);
+    check_figure("dnn", &[F(12), R(6), R(7)]);
+    check_figure("snn", &[F(12), R(5), R(6)]);
+    check_figure("nnnd", &[R(4), R(5), R(6), Stack(16)]);
+    check_figure("nnns", &[R(4), R(5), R(6), R(7)]);
+    check_figure("nnd", &[R(4), R(5), R(6)]);
+    check_figure("nd", &[R(4), R(6)]);
+    check_figure("ssss", &[F(12), F(14), R(6), R(7)]);
+    check_figure("snsn", &[F(12), R(5), R(6), R(7)]);
+    // Misprinted as `$6` in the figure.
+    check_figure("dss", &[F(12), F(14), R(7)]);
+    check_figure("ssd", &[F(12), F(14), R(6)]);
+    check_figure("nsns", &[R(4), R(5), R(6), R(7)]);
+    check_figure("nsnn", &[R(4), R(5), R(6), R(7)]);
+    check_figure("nnsn", &[R(4), R(5), R(6), R(7)]);
+}
+
+#[test]
+fn figure_3_22_with_an_ellipsis_in_the_second_slot() {
+    check_figure("n.dd", &[R(4), R(6), Stack(16)]);
+    check_figure("s.n", &[F(12), R(5)]);
+    check_figure("s.nd", &[F(12), R(5), R(6)]);
+    // Misprinted as "f6" in the figure.
+    check_figure("d.n", &[F(12), R(6)]);
+    check_figure("d.nd", &[F(12), R(6), Stack(16)]);
+}
+
+#[test]
+fn further_examples_with_long_integers() {
+    check_figure("dsd", &[F(12), F(14), Stack(16)]);
+    check_figure("dsss", &[F(12), F(14), R(7), Stack(16)]);
+    check_figure("nsd", &[R(4), R(5), R(6)]);
+    check_figure("jd", &[R(4), R(6)]);
+    check_figure("js", &[R(4), R(6)]);
+    check_figure("s.d", &[F(12), R(6)]);
+    check_figure("d.s", &[F(12), R(6)]);
+    check_figure("j.d", &[R(4), R(6)]);
+    check_figure("ss.", &[F(12), F(14)]);
+}
+
+#[test]
+fn a_return_pointer_keeps_floats_out_of_their_registers() {
+    check(
+        "0B 00000001 07 00000002 07 00000003",
+        "0B 07 07",
+        16,
+        &[(R(4), 1), (R(5), 2), (R(6), 3)],
+    );
+}
+
+#[test]
+fn the_last_argument_may_end_at_1024() {
+    let mut list = [big_structure(), big_structure()].concat();
+    assert_eq!(written(&list).len(), 1056);
+    // A marker behind it is no argument and takes no room.
+    assert_eq!(written(&[&list[..], &[0x0A]].concat()).len(), 1056);
+    list.extend(hex(WORD));
+    assert_eq!(write_refusal(&list), refused(5, 1026));
+    assert_eq!(read_refusal(&[0xFF, 0xFF, 0x05], &[], 0), refused(5, 2));
+    // A body that is cut off comes before the limit, where there are bodies.
+    assert_eq!(write_refusal(&list[..1028]), refused(4, 1026));
+}
+
+#[test]
+fn thirty_two_arguments_are_enough() {
+    let mut list = hex(WORD).repeat(32);
+    assert_eq!(written(&list).len(), 32 + 128);
+    assert_eq!(written(&[&list[..], &[0x0A]].concat()).len(), 32 + 128);
+    let two_markers = [&list[..], &[0x0A, 0x0A]].concat();
+    assert_eq!(write_refusal(&two_markers), refused(2, 161));
+    list.extend(hex(WORD));
+    assert_eq!(write_refusal(&list), refused(3, 160));
+    // The thirty-third needs no body to be refused, nor the right place.
+    assert_eq!(write_refusal(&list[..161]), refused(3, 160));
+    list[160] = 0x0B;
+    assert_eq!(write_refusal(&list), refused(2, 160));
+    list[160] = 0x09;
+    assert_eq!(write_refusal(&list), refused(1, 160));
+}
+
+#[test]
+fn refused_records() {
+    assert_eq!(write_refusal(&hex("05 00")), refused(4, 0));
+    assert_eq!(write_refusal(&hex("05")), refused(4, 0));
+    assert_eq!(write_refusal(&hex("0A")), refused(2, 0));
+    assert_eq!(write_refusal(&hex("0B 00000000 0A")), refused(2, 5));
+    assert_eq!(
+        write_refusal(&hex("0B 00000000 0B 00000000")),
+        refused(2, 5)
+    );
+    assert_eq!(write_refusal(&hex("01 00 0B 00000000")), refused(2, 2));
+    assert_eq!(write_refusal(&hex("01 00 0A 01 00 0A")), refused(2, 5));
+    assert_eq!(write_refusal(&hex("00")), refused(1, 0));
+    assert_eq!(write_refusal(&hex("05 00000000 3F")), refused(1, 5));
+    assert_eq!(read_refusal(&hex("05 0A 0A"), &[], 0), refused(2, 2));
+    assert_eq!(read_refusal(&[0x05; 33], &[], 0), refused(3, 32));
+}
+
+#[test]
+fn the_reader_refuses_6_then_7_then_8() {
+    let image = image_of(16, &[(R(4), 0x80)]);
+    assert_eq!(read_refusal(&[0x01], &image, 2), refused(8, 0));
+    assert_eq!(read_refusal(&[0x01], &image, 1), refused(7, 0));
+    assert_eq!(read_refusal(&[0x01], &image[..47], 1), refused(6, 0));
+    assert_eq!(read_refusal(&[0x01], &[], 0), refused(6, 0));
+    let image = image_of(16, &[(R(5), 0x100)]);
+    assert_eq!(read_refusal(&[0x05, 0x0A, 0x02], &image, 9), refused(8, 2));
+}
+
+#[test]
+fn the_reader_takes_only_proper_promotions() {
+    let read_word = |kind, word| {
+        let mut list = [0; 3];
+        read(&[kind], &image_of(16, &[(R(4), word)]), &mut list).refusal
+    };
+    for (kind, proper, improper) in [
+        (0x01, 0xFFFF_FF80, 0x0000_0080),
+        (0x01, 0x0000_007F, 0xFFFF_FF7F),
+        (0x02, 0x0000_00FF, 0x0000_0100),
+        (0x02, 0x0000_0080, 0xFFFF_FF80),
+        (0x03, 0xFFFF_8000, 0x0000_8000),
+        (0x03, 0x0000_7FFF, 0x7FFF_7FFF),
+        (0x04, 0x0000_FFFF, 0x0001_0000),
+        (0x04, 0x0000_8000, 0xFFFF_8000),
+    ] {
+        assert_eq!(read_word(kind, proper), 0, "{kind:02X} {proper:08X}");
+        assert_eq!(read_word(kind, improper), 8, "{kind:02X} {improper:08X}");
+    }
+}
+
+#[test]
+fn the_reader_ignores_what_carries_nothing() {
+    let list = hex("07 11121314 05 00000009 45 010203040506");
+    let mut image = written(&list);
+    // `$4` is the single's unused home register, `$f13` to `$f15` are free,
+    // the last two bytes of `$7` are fill, and the area holds only homes.
+    for hole in [0..4, 14..16, 20..48] {
+        image[hole].fill(0xEE);
+    }
+    assert_eq!(read_back(&hex("07 05 45"), &image), list);
+}
+
+#[test]
+fn output_buffers_of_every_length() {
+    let list = hex("05 00000009 45 010203040506");
+    let image = written(&list);
+    for room in 0..image.len() + 4 {
+        let mut buffer = vec![0xA5; room];
+        let answer = write(&list, &mut buffer);
+        if room < image.len() {
+            assert_eq!(answer, refused(7, 0));
+            assert!(buffer.iter().all(|&byte| byte == 0xA5));
+        } else {
+            assert_eq!(answer, success(image.len()));
+            assert_eq!(buffer[..image.len()], image);
+            assert!(buffer[image.len()..].iter().all(|&byte| byte == 0xA5));
+        }
+    }
+}
+
+const EXAMPLE: Request = Request {
+    leaf: false,
+    locals: 4,
+    outgoing: 0,
+    general: 1 << 16 | 1 << 31,
+    pairs: 0,
+};
+
+fn layout(numbers: [u32; 5]) -> Layout {
+    let [frame, build, floating, general, locals] = numbers;
+    Layout {
+        refusal: 0,
+        place: 0,
+        frame,
+        build,
+        floating,
+        general,
+        locals,
+    }
+}
+
+fn codes(request: Request) -> (Vec<u8>, Vec<u8>) {
+    let mut buffer = [0xA5; 128];
+    let answer = prologue(request, &mut buffer);
+    assert_eq!((answer.refusal, answer.place), (0, 0));
+    let first = buffer[..answer.length as usize].to_vec();
+    let answer = epilogue(request, &mut buffer);
+    assert_eq!((answer.refusal, answer.place), (0, 0));
+    (first, buffer[..answer.length as usize].to_vec())
+}
+
+#[test]
+fn the_example_frame() {
+    assert_eq!(frame(EXAMPLE), layout([32, 16, 16, 16, 24]));
+    let (prologue, epilogue) = codes(EXAMPLE);
+    assert_eq!(prologue, hex("27BDFFE0 AFB00010 AFBF0014"));
+    assert_eq!(epilogue, hex("8FB00010 8FBF0014 03E00008 27BD0020"));
+}
+
+#[test]
+fn short_code_buffers_are_refused() {
+    for room in 0..20 {
+        let mut code = vec![0xA5; room];
+        let expected = if room < 12 {
+            refused(13, 0)
+        } else {
+            success(12)
+        };
+        assert_eq!(prologue(EXAMPLE, &mut code), expected);
+        let mut code = vec![0xA5; room];
+        let expected = if room < 16 {
+            refused(13, 0)
+        } else {
+            success(16)
+        };
+        assert_eq!(epilogue(EXAMPLE, &mut code), expected);
+        assert!(room >= 16 || code.iter().all(|&byte| byte == 0xA5));
+    }
+}
+
+#[test]
+fn a_leaf_without_anything_has_no_frame() {
+    let request = Request {
+        leaf: true,
+        ..Request::default()
+    };
+    assert_eq!(frame(request), layout([0; 5]));
+    assert_eq!(prologue(request, &mut []), success(0));
+    assert_eq!(epilogue(request, &mut [0; 7]), refused(13, 0));
+    assert_eq!(codes(request).1, hex("03E00008 00000000"));
+}
+
+#[test]
+fn the_largest_frame() {
+    let request = Request {
+        leaf: false,
+        locals: 16_384,
+        outgoing: 1_024,
+        general: 0xC0FF_0000,
+        pairs: 63,
+    };
+    assert_eq!(frame(request), layout([17_496, 1024, 1024, 1072, 1112]));
+    let (prologue, epilogue) = codes(request);
+    assert_eq!(prologue.len(), 4 * 23);
+    assert_eq!(epilogue.len(), 4 * 24);
+    // -17,496 is BBA8 in sixteen bits.
+    assert_eq!(prologue[..12], hex("27BDBBA8 E7B40400 E7B50404"));
+    assert_eq!(prologue[48..56], hex("E7BF042C AFB00430"));
+    assert_eq!(prologue[84..], hex("AFBE0450 AFBF0454"));
+    assert_eq!(epilogue[88..], hex("03E00008 27BD4458"));
+}
+
+#[test]
+fn an_odd_number_of_registers_is_padded_at_the_top() {
+    let request = Request {
+        leaf: true,
+        locals: 1,
+        outgoing: 0,
+        general: 1 << 18,
+        pairs: 0b10_0001,
+    };
+    assert_eq!(frame(request), layout([32, 0, 0, 16, 24]));
+    let expected = hex("27BDFFE0 E7B40000 E7B50004 E7BE0008 E7BF000C AFB20010");
+    assert_eq!(codes(request).0, expected);
+}
+
+#[test]
+fn frame_refusals_in_their_order() {
+    let leaf = Request {
+        leaf: true,
+        ..Request::default()
+    };
+    let all_wrong = Request {
+        leaf: false,
+        locals: u32::MAX,
+        outgoing: u32::MAX,
+        general: 1 << 15,
+        pairs: 64,
+    };
+    let pairs_wrong = Request {
+        general: 0,
+        ..all_wrong
+    };
+    let unsaved = Request {
+        pairs: 0,
+        ..pairs_wrong
+    };
+    let locals_wrong = Request {
+        general: 1 << 31,
+        ..unsaved
+    };
+    let outgoing_wrong = Request {
+        locals: 16_384,
+        ..locals_wrong
+    };
+    let leaf_calls = Request {
+        outgoing: 1,
+        ..leaf
+    };
+    for (request, number) in [
+        (all_wrong, 9),
+        (pairs_wrong, 9),
+        (unsaved, 10),
+        (locals_wrong, 11),
+        (outgoing_wrong, 12),
+        (leaf_calls, 12),
+    ] {
+        let expected = Layout {
+            refusal: number,
+            ..Layout::default()
+        };
+        assert_eq!(frame(request), expected);
+        assert_eq!(prologue(request, &mut []), refused(number, 0));
+        assert_eq!(epilogue(request, &mut [0; 200]), refused(number, 0));
+    }
+    for bit in (0..16).chain(24..30) {
+        let request = Request {
+            general: 1 << bit,
+            ..leaf
+        };
+        assert_eq!(frame(request).refusal, 9);
+    }
+}

@@ -1,0 +1,246 @@
+/*
+ * o32.h - call images and frames of the MIPS O32 calling convention.
+ *
+ * Five functions:
+ *
+ *   o32_write     turns a list of arguments into a call image: the contents
+ *                 of the argument registers and of the stack's argument area
+ *                 at the moment of the call;
+ *   o32_read      reads such an image back, given the kinds of the arguments;
+ *   o32_frame     lays out a function's stack frame;
+ *   o32_prologue  writes the instructions that set a frame up;
+ *   o32_epilogue  writes those that take it down and return.
+ *
+ * BUFFERS. Every buffer belongs to the caller: the functions allocate nothing,
+ * keep no pointer after they have returned, and have no state. A buffer is a
+ * pointer and its length in bytes; a buffer of length 0 may be a null pointer.
+ * Inputs are only read. An output buffer must not overlap another buffer of
+ * the same call, and needs no content and no alignment beforehand. On success
+ * exactly the answered length is written, from the start of the buffer, and
+ * bytes beyond it keep their content. On a refusal no byte of it changes.
+ * The functions may be called from several threads at once.
+ *
+ * ANSWERS. `refusal` is 0 on success, otherwise the number of the refusal (see
+ * the tables below). `place` says where, for refusals that have a place, and is
+ * 0 otherwise. `length` is the number of bytes written, and 0 on a refusal.
+ *
+ * All numbers in lists, images and code are big-endian. Kinds are written in
+ * hexadecimal here.
+ *
+ *
+ * LISTS
+ *
+ * A list is records end to end. A record is one byte of kind and a body, whose
+ * length the kind fixes:
+ *
+ *   kind    argument                                    body bytes   alignment
+ *   01      signed byte                                      1           4
+ *   02      unsigned byte                                    1           4
+ *   03      signed halfword                                  2           4
+ *   04      unsigned halfword                                2           4
+ *   05      word or pointer                                  4           4
+ *   06      64-bit integer                                   8           8
+ *   07      single-precision float, as its bits              4           4
+ *   08      double-precision float, as its bits              8           8
+ *   0A      ellipsis marker, which is no argument            0           -
+ *   0B      pointer for a returned structure                 4           4
+ *   40..7F  structure of kind - 3F bytes              1 to  64           4
+ *   80..BF  structure of 64 + 4 x (kind - 7F) bytes  68 to 320           4
+ *   C0..FF  structure of 8 x (kind - BF) bytes        8 to 512           8
+ *
+ * Every other kind is unknown. A list may be empty and has at most 32
+ * arguments; a return pointer counts as one, the marker doesn't. A return
+ * pointer stands first or not at all. The marker says that the arguments behind
+ * it match the ellipsis of a prototype, as in f(int, ...); it stands at most
+ * once, behind at least one argument that is no return pointer, and may come
+ * last.
+ *
+ * A signature is the kind bytes of a list alone, in order.
+ *
+ * Example: 05 00000009 45 010203040506 is the word 9 and a structure of six
+ * bytes. Its signature is 05 45.
+ *
+ *
+ * IMAGES
+ *
+ * An image is eight register words and behind them the argument area:
+ *
+ *   bytes  0 to 15   $4, $5, $6, $7
+ *   bytes 16 to 31   $f12, $f13, $f14, $f15
+ *   bytes 32 on      the A bytes of the argument area
+ *
+ * Bytes and halfwords are first promoted to words, by sign or by zero, and
+ * structures are rounded up to whole words, with the fill behind their bytes.
+ * The arguments then lie in the area like the members of one structure, from
+ * offset 0, each at the next multiple of its alignment. The last one may end
+ * at 1,024 and not beyond. A is that end rounded up to 8, and at least 16; so
+ * an image has 48 to 1,056 bytes.
+ *
+ *   - If the first argument is a float, it goes to $f12, and if the second is
+ *     one too and no marker stands before it, that one goes to $f14. A double
+ *     takes $f12,$f13 or $f14,$f15, its first four bytes in the even register.
+ *     A return pointer counts as the first argument.
+ *   - Of all others, what lies at an offset o below 16 goes to register
+ *     $4 + o/4, and what lies at 16 or above stays in the area at offset o. A
+ *     structure may be split so.
+ *
+ * Whatever carries nothing is zero in an image that o32_write makes: unused
+ * registers, holes, fill, and the area's first 16 bytes, the homes of the
+ * register words. o32_read ignores such bytes.
+ *
+ *
+ * REFUSALS OF o32_write AND o32_read
+ *
+ * Records are checked from left to right, each by 1 to 5 in this order; 6 to 8
+ * follow when all records have passed. The place of 1 to 5 is the offset of the
+ * record's kind byte in what was given, the list or the signature.
+ *
+ *   no.  meaning                                                    place
+ *    1   unknown kind                                               kind byte
+ *    2   marker or return pointer in the wrong place, or repeated   kind byte
+ *    3   a 33rd argument                                            kind byte
+ *    4   the body is cut off (o32_write only)                       kind byte
+ *    5   the argument ends beyond 1,024                             kind byte
+ *    6   the image's length isn't the one that the signature asks
+ *        for, 32 + A (o32_read only)                                0
+ *    7   the output buffer is shorter than the result               0
+ *    8   the word of a byte or halfword (01 to 04) is none that
+ *        promotion gives, as 00000080 for 01 (o32_read only)        the first
+ *                                                       such kind byte's offset
+ *                                                       in the signature
+ *
+ *
+ * FRAMES
+ *
+ * A request says:
+ *
+ *   leaf      the function calls no other: 0 is no, anything else yes
+ *   locals    bytes of local variables, at most 16,384
+ *   outgoing  most bytes of arguments that it passes to a function it calls, at
+ *             most 1,024; 0 in a leaf
+ *   general   mask of general registers to save: bit k is $k, of $16 to $23,
+ *             $30 and $31. A function that is no leaf must save $31.
+ *   pairs     mask of floating pairs to save: bit k, from 0 to 5, is $f20 + 2k
+ *             and the register behind it
+ *
+ * From $sp upward a frame holds
+ *
+ *   the argument build area   outgoing rounded up to 8, at least 16; 0 in a leaf
+ *   the floating save area    8 bytes for each pair
+ *   the general save area     4 bytes for each register, rounded up to 8
+ *   the locals
+ *
+ * and ends at the end of the locals rounded up to 8, at most at 17,496. Lower
+ * register numbers lie lower.
+ *
+ * The prologue is addiu $sp,$sp,-F for a frame of F bytes, then swc1 for the
+ * floating registers and sw for the general ones, both from the lowest number
+ * upward; it is empty if F is 0. The epilogue is lwc1 and lw in the same order,
+ * then jr $31, and in its delay slot addiu $sp,$sp,F, or a no-operation if F is
+ * 0. The longest prologue has 92 bytes, the longest epilogue 96.
+ *
+ * Checks in this order; place is 0 for all of them:
+ *
+ *   no.  meaning
+ *    9   the general mask names another register, or the pair mask is above 63
+ *   10   not a leaf, and $31 isn't named
+ *   11   locals above 16,384
+ *   12   outgoing above 1,024, or not 0 in a leaf
+ *   13   the code buffer is too short (o32_prologue, o32_epilogue)
+ */
+
+#ifndef O32_H
+#define O32_H
+
+#include <stddef.h>
+#include <stdint.h>
+
+#ifdef __cplusplus
+extern "C" {
+#endif
+
+/* Sizes of buffers that are always enough. */
+#define O32_LIST_MAX 1057     /* the longest list that is accepted */
+#define O32_IMAGE_MAX 1056    /* the longest image */
+#define O32_PROLOGUE_MAX 92   /* the longest prologue */
+#define O32_EPILOGUE_MAX 96   /* the longest epilogue */
+
+/* The refusal numbers. */
+enum o32_refusal {
+    O32_ACCEPTED = 0,
+    O32_UNKNOWN_KIND = 1,
+    O32_MISPLACED = 2,
+    O32_TOO_MANY_ARGUMENTS = 3,
+    O32_BODY_CUT_OFF = 4,
+    O32_BEYOND_LIMIT = 5,
+    O32_IMAGE_LENGTH = 6,
+    O32_SHORT_OUTPUT = 7,
+    O32_NO_PROMOTION = 8,
+    O32_MASKS = 9,
+    O32_RETURN_ADDRESS_NOT_SAVED = 10,
+    O32_LOCALS = 11,
+    O32_OUTGOING = 12,
+    O32_SHORT_CODE = 13
+};
+
+/* What o32_write, o32_read, o32_prologue and o32_epilogue answer. */
+typedef struct {
+    uint32_t refusal; /* 0 on success */
+    uint32_t place;   /* offset of the refused kind byte, or 0 */
+    uint32_t length;  /* bytes written, 0 on a refusal */
+} o32_answer;
+
+/*
+ * What o32_frame answers. Offsets are from $sp inside the frame; that of an
+ * empty area is the end of the area below. On a refusal all numbers but
+ * `refusal` are 0.
+ */
+typedef struct {
+    uint32_t refusal;  /* 0 on success */
+    uint32_t place;    /* always 0 */
+    uint32_t frame;    /* size of the frame */
+    uint32_t build;    /* size of the argument build area, at offset 0 */
+    uint32_t floating; /* offset of the floating save area */
+    uint32_t general;  /* offset of the general save area */
+    uint32_t locals;   /* offset of the locals */
+} o32_layout;
+
+/*
+ * Writes the image of a list. Refuses 1 to 5 and 7. An image buffer of
+ * O32_IMAGE_MAX bytes is always enough.
+ */
+o32_answer o32_write(const uint8_t *list, size_t list_len,
+                     uint8_t *image, size_t image_len);
+
+/*
+ * Writes the list that an image reads as under a signature: each kind byte with
+ * its body, as o32_write takes it. `image_len` is the image's exact length, not
+ * that of a larger buffer around it. Refuses 1 to 3 and 5 to 8. A list buffer
+ * of O32_LIST_MAX bytes is always enough.
+ */
+o32_answer o32_read(const uint8_t *signature, size_t signature_len,
+                    const uint8_t *image, size_t image_len,
+                    uint8_t *list, size_t list_len);
+
+/* Lays out a frame. Refuses 9 to 12. */
+o32_layout o32_frame(uint32_t leaf, uint32_t locals, uint32_t outgoing,
+                     uint32_t general, uint32_t pairs);
+
+/*
+ * Writes a frame's prologue as instruction words. `code_len` and the answered
+ * length count bytes. Refuses 9 to 13.
+ */
+o32_answer o32_prologue(uint32_t leaf, uint32_t locals, uint32_t outgoing,
+                        uint32_t general, uint32_t pairs,
+                        uint8_t *code, size_t code_len);
+
+/* Writes a frame's epilogue, likewise. */
+o32_answer o32_epilogue(uint32_t leaf, uint32_t locals, uint32_t outgoing,
+                        uint32_t general, uint32_t pairs,
+                        uint8_t *code, size_t code_len);
+
+#ifdef __cplusplus
+}
+#endif
+
+#endif /* O32_H */
