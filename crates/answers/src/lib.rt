@@ -8,6 +8,7 @@ pub struct Answer {
     pub length: usize,
 }
 
+// An answer of these three numbers.
 pub fn reply(refusal: u32, place: usize, length: usize) -> Answer
     ensures { λ r. ⌜ r ≡ record { refusal = refusal; place = place; length = length } ⌝ }
 {

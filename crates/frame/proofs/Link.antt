@@ -1,16 +1,15 @@
 -- The bytes that the writers of prologue and epilogue answer are the words' own, of an accepted request, where they fit; so the
 -- machine's theorem speaks of the bytes that the two functions write.
 -- Assumes nothing.
-use mathlib.Core.Path.{_≡_, refl, sym, ap, _∙_, subst₂}
+use mathlib.Core.Path.{_≡_, refl, sym, subst₂}
 use mathlib.Core.List.{List}
 use mathlib.Core.Bool.{Bool, true, false, cond}
-use mathlib.Core.Logic.{_↔_}
-use Prim.Native.Nat.{ℕ, _≤_}
+use Prim.Native.Nat.{ℕ}
 use native.Mathlib.Omega.{arith}
 use lib.ListN.{length, take}
 use lib.Seq.{take-at}
 use lib.Dec.{eqb, ltb}
-use borrow.Author.Tests.{eqb-true, eqb-false, ltb-false}
+use borrow.Author.Tests.{eqb-true, eqb-false}
 use Rattle.carried.specs.Image as C
 use Rattle.answers.specs.Answers.{answerOf, bufferOf}
 use Rattle.saves.specs.declared.Request.{Request}
@@ -19,24 +18,6 @@ use Rattle.saves.specs.Words.{prologueWords, epilogueWords, bytesOfWords}
 use Rattle.saves.specs.Demand.{Keeps}
 use Rattle.saves.proofs.Theorem.{frames}
 use Rattle.frame.specs.Code.{codeInto, prologueInto, epilogueInto}
-use Rattle.frame.proofs.Answers.{code-done}
-
--- of the three cases, one is done
-done-is : (accepted short : Bool) (n : ℕ) (x y : List ℕ) → cond accepted (cond short (C.refused 13 0) (C.done y)) (C.refused n 0) ≡ C.done x
-    → (accepted ≡ true) × (short ≡ false) × (x ≡ y)
-done-is true true n x y p = let z : _≡_ {A = ℕ} 0 1 = cc in absurd (omega arith)
-done-is true false n x y p = (refl, refl, cc)
-done-is false short n x y p = let z : _≡_ {A = ℕ} 0 1 = cc in absurd (omega arith)
-
-pub code-is : (r : Request) (ws x : List ℕ) (room : ℕ)
-    → (codeInto r ws room ≡ C.done x) ↔ ((refusalOf r ≡ 0) × (x ≡ bytesOfWords ws) × (length x ≤ room))
-unfolding codeInto
-code-is r ws x room = (
-  (λ p.
-      let d = done-is (eqb (refusalOf r) 0) (ltb room (length (bytesOfWords ws))) (refusalOf r) x (bytesOfWords ws) p in
-      (eqb-true _ _ (d .0), d .2, omega (arith, ltb-false room (length (bytesOfWords ws)) (d .1), ap length (d .2)))),
-  (λ h. code-done r ws room (h .0) (omega (arith, ap length (h .1), h .2)) ∙ ap C.done (sym (h .1))),
-)
 
 -- what was written where the answer is no refusal
 abbrev Wrote : Request → List ℕ → List ℕ → Type 0

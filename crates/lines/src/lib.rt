@@ -1,5 +1,6 @@
 // The lines of a text of cases: numbers and bytes in them, and what is printed below them.
 ghost use mathlib.Core.Bool.{true};
+ghost use mathlib.Core.Logic.{_⊎_};
 ghost use mathlib.Core.Path.{_≡_};
 ghost use Prim.Native.Nat.{_+_, _<_, _≤_};
 ghost use lib.ListN.{length};
@@ -136,9 +137,10 @@ pub fn put(out: &mut [u8], at: usize, first: u8, step: u8, count: usize) -> usiz
     at + i
 }
 
-// The bytes of the field between two places of a line into a buffer; their number.
+// The bytes of the field between two places of a line into a buffer; their number, or malformed.
 pub fn bytes(line: &[u8], from: usize, to: usize, out: &mut [u8]) -> usize
     requires { ⌜ to ≤ length (now line) ⌝ }
+    ensures { λ r. ⌜ (r ≤ length (now (out .exit))) ⊎ (r ≡ 99999) ⌝ }
 {
     let mut n = 0;
     let mut i = from;
@@ -160,14 +162,17 @@ pub fn bytes(line: &[u8], from: usize, to: usize, out: &mut [u8]) -> usize
     n
 }
 
+// A text to standard output. Of what is printed the language has nothing to promise.
 pub fn print(text: &[u8]) {
     io::write_all(STDOUT_FILENO, text);
 }
 
+// The answer to a line that has another form.
 pub fn malformed() {
     print(b"malformed\n");
 }
 
+// The line of a refusal.
 pub fn print_refusal(number: u32, place: usize) {
     let mut out = [0u8; 43];
     let n = text::refusal_text(number, place, &mut out);
