@@ -1,6 +1,6 @@
 -- A float stored into the words of its register floatBytes is stored at the image bytes that carry it.
 -- Assumes nothing.
-use mathlib.Core.Path.{_≡_, refl, sym, ap, ap₂, _∙_}
+use mathlib.Core.Path.{_≡_, refl, ap, ap₂, _∙_}
 use mathlib.Core.Logic.{_⊎_, inl, inr}
 use mathlib.Core.List.{List}
 use Prim.Native.Nat.{ℕ, _+_, _-_, _*_, _≤_}
@@ -11,7 +11,7 @@ use Rattle.carried.specs.Image.{put}
 use Rattle.o32.specs.O32.{run, floatBytes}
 use Rattle.block.specs.Block.{blockBytes, whole}
 use Rattle.placement.specs.Fitting.{Floating}
-use Rattle.block.proofs.Stores.{run-add, store-behind}
+use Rattle.block.proofs.Stores.{store-more}
 use Rattle.block.proofs.Image.{word-stored, whole-low}
 
 -- there are four: a single or a double in $f12 or $f14
@@ -50,8 +50,7 @@ module _ (block src : List ℕ) (words : length block ≡ 8) {f size : ℕ} (flo
       word-stored (set block (f - 8) u) (f - 8 + 1) v (rw length-set (omega (arith, bounds float)))
       ∙ ap (λ (x : List ℕ). put x (run (4 * (f - 8 + 1)) 4) (bytesOf 4 v)) one-word
       ∙ ap₂ (λ (k : ℕ) (vs : List ℕ). put (put img (run p 4) (take 4 (drop at src))) (run k 4) vs) q second
-      ∙ store-behind img src 4 4 p (p + 4) at (omega arith)
-      ∙ ap (λ (ps : List ℕ). put img ps (take 8 (drop at src))) (sym (run-add 4 4 p))
+      ∙ store-more img src p at 4 4 (omega arith)
       ∙ rw (float-run float, e)
 
 -- and so the image

@@ -49,6 +49,12 @@ byte-changed ws p w b h e =
 pub word-stored : (ws : List ℕ) (j w : ℕ) → j < length ws → blockBytes (set ws j w) ≡ put (blockBytes ws) (run (4 * j) 4) (bytesOf 4 w)
 word-stored ws j w h = word-changed ws j w 0 4 (bytesOf 4 w) h (omega arith) refl ∙ rw add-zero
 
+-- by the place of its first byte
+pub word-stored-at : (ws : List ℕ) (p w : ℕ) (vs : List ℕ) → p / 4 < length ws → p % 4 ≡ 0 → bytesOf 4 w ≡ vs → blockBytes (set ws (p / 4) w) ≡ put (blockBytes ws) (run p 4) vs
+word-stored-at ws p w vs h k f =
+    let e : 4 * (p / 4) ≡ p = omega arith in
+    word-stored ws (p / 4) w h ∙ ap₂ (λ (q : ℕ) (us : List ℕ). put (blockBytes ws) (run q 4) us) e f
+
 -- a turn of a loop that writes the block's words over a buffer
 pub word-next : (ws out : List ℕ) (i : ℕ) → i < length ws → (i + 1) * 4 ≤ length out
     → put (blockBytes (take i ws) ++ drop (i * 4) out) (run (i * 4) 4) (bytesOf 4 (getD ws i 0)) ≡ blockBytes (take (i + 1) ws) ++ drop ((i + 1) * 4) out
@@ -82,9 +88,7 @@ module _ (block : List ℕ) (words : length block ≡ 8) where
 
   -- a word in the block
   pub word-low : (out : List ℕ) (o w : ℕ) → o < 16 → o % 4 ≡ 0 → whole (set block (o / 4) w) out ≡ put (whole block out) (map carrier (run o 4)) (bytesOf 4 w)
-  word-low out o w h k =
-      let e : 4 * (o / 4) ≡ o = omega arith in
-      laid-low (set block (o / 4) w) out 4 o (bytesOf 4 w) (omega arith) (word-stored block (o / 4) w (omega arith) ∙ ap (λ (p : ℕ). put (blockBytes block) (run p 4) (bytesOf 4 w)) e)
+  word-low out o w h k = laid-low (set block (o / 4) w) out 4 o (bytesOf 4 w) (omega arith) (word-stored-at block o w (bytesOf 4 w) (omega arith) k refl)
 
 -- or in both
 pub laid-split : (block r out out′ src : List ℕ) (n o at : ℕ) → length block ≡ 8 → length r ≡ 8 → o ≤ 16 → 16 ≤ o + n → at + n ≤ length src

@@ -1,4 +1,4 @@
--- Laws of stores at bytes that lie together: one byte more, one run behind another, and stores into either of two parts of a list.
+-- Laws of stores at bytes that lie together: some bytes more, one run behind another, and stores into either of two parts of a list.
 -- Assumes nothing.
 use mathlib.Core.Path.{_≡_, refl, sym, ap, ap₂, _∙_}
 use mathlib.Core.List.{List, [], _∷_, _++_, append-nil}
@@ -27,12 +27,17 @@ store-behind img src m n p q at h =
     let long : length (take m (drop at src)) ≡ length (run p m) = length-take-le m (drop at src) (rw length-drop (omega arith)) ∙ sym (length-run m p) in
     rw (take-add, drop-drop) (sym (put-append img (run p m) (run q n) (take m (drop at src)) (take n (drop (at + m) src)) long))
 
--- a turn of a loop that stores one byte of a source more
+-- a turn of a loop that stores m bytes of a source more
+pub store-more : (img src : List ℕ) (to at i m : ℕ) → at + i ≤ length src
+    → put (put img (run to i) (take i (drop at src))) (run (to + i) m) (take m (drop (at + i) src)) ≡ put img (run to (i + m)) (take (i + m) (drop at src))
+store-more img src to at i m h = rw run-add (store-behind img src i m to (to + i) at h)
+
+-- one byte of it
 pub store-next : (img src : List ℕ) (to at i : ℕ) → at + i < length src
     → set (put img (run to i) (take i (drop at src))) (to + i) (getD src (at + i) 0) ≡ put img (run to (i + 1)) (take (i + 1) (drop at src))
 store-next img src to at i h =
     let one : take 1 (drop (at + i) src) ≡ getD src (at + i) 0 ∷ [] = take-suc (drop (at + i) src) 0 0 (rw length-drop (omega arith)) ∙ rw (getD-drop, add-zero) in
-    rw (run-add, ← store-behind img src i 1 to (to + i) at (omega arith), one)
+    rw (← store-more img src to at i 1 (omega arith), one)
 
 -- ---- stores into the first of two parts of a list, into the second, and where the first ends
 

@@ -1,15 +1,8 @@
 -- The image as the writer holds it: the register block, and the buffer behind its first 32 bytes.
-use mathlib.Core.Path.{_≡_}
-use mathlib.Core.Logic.{_⊎_}
 use mathlib.Core.List.{List, [], _∷_, _++_}
-use mathlib.Core.Bool.{true, _||_}
-use Prim.Native.Nat.{ℕ, _+_, _%_, _≤_}
+use Prim.Native.Nat.{ℕ, _+_}
 use lib.ListN.{drop}
 use Rattle.words.specs.Words.{bytesOf}
-use Rattle.o32.specs.declared.Class.the-variants.{Signed, Unsigned, Float}
-use Rattle.o32.specs.declared.Placement.{Placement}
-use Rattle.o32.specs.Kinds.{is}
-use Rattle.o32.specs.Offsets.{width}
 
 -- "eight register words .., big-endian, 32 bytes".
 abbrev pub blockBytes : List ℕ → List ℕ

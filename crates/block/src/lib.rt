@@ -64,8 +64,9 @@ fn with_byte(w: u32, k: usize, b: u8) -> u32
     }
 }
 
-// Bytes of a list into the block, from its byte o on.
+// Bytes of a list into the block, from its byte o on: whole words as long as four bytes are left, then single bytes.
 fn put_low(block: [u32; 8], o: usize, src: &[u8], at: usize, n: usize) -> [u32; 8]
+    requires { ⌜ o % 4 ≡ 0 ⌝ }
     requires { ⌜ (o + n ≤ 16) × (at + n ≤ length (now src)) ⌝ }
     ensures { λ r. ⌜ blockBytes r ≡ put (blockBytes block) (run o n) (take n (drop at (now (src .entry)))) ⌝ }
 {
@@ -73,8 +74,13 @@ fn put_low(block: [u32; 8], o: usize, src: &[u8], at: usize, n: usize) -> [u32; 
     let mut i = 0;
     while i < n {
         let j = (o + i) / 4;
-        next[j] = with_byte(next[j], (o + i) % 4, src[at + i]);
-        i += 1;
+        if n < i + 4 {
+            next[j] = with_byte(next[j], (o + i) % 4, src[at + i]);
+            i += 1;
+        } else {
+            next[j] = words::word_at(src, at + i);
+            i += 4;
+        }
     }
     next
 }
@@ -118,6 +124,7 @@ fn put_plain(
     at: usize,
     size: usize,
 ) -> [u32; 8]
+    requires { ⌜ o % 4 ≡ 0 ⌝ }
     requires { ⌜ (48 ≤ length (now out)) × (32 + (o + size) ≤ length (now out)) ⌝ }
     requires { ⌜ at + size ≤ length (now src) ⌝ }
     ensures { λ r. ⌜ whole r (now (out .exit)) ≡ put (whole block (now (out .entry))) (map carrier (run o size)) (take size (drop at (now (src .entry)))) ⌝ }

@@ -3,12 +3,12 @@
 use mathlib.Core.Path.{_≡_, refl, sym, ap, ap₂, _∙_, subst}
 use mathlib.Core.List.{List, [], _∷_, _++_}
 use mathlib.Core.Bool.{Bool, true, false, cond}
-use Prim.Native.Nat.{ℕ, suc, _+_, _≤_}
+use Prim.Native.Nat.{ℕ, suc, _+_, _≤_, _<_}
 use mathlib.Core.Logic.{_↔_}
 use native.Mathlib.Omega.{arith}
 use lib.ListN.{length, drop, length-append}
 use lib.Dec.{eqb, ltb}
-use borrow.Author.Tests.{eq-eqb, ne-eqb, ltb-true, ltb-false}
+use borrow.Author.Tests.{eq-eqb, ne-eqb, lt-ltb, le-ltb, ltb-true, ltb-false}
 use Rattle.words.specs.Words.{body, proper}
 use Rattle.carried.specs.Image as C
 use Rattle.carried.specs.Image.{gather, Placed, reading}
@@ -16,30 +16,26 @@ use Rattle.carried.specs.Convention.{Plan, bad, good, plan, readUnder, read}
 use Rattle.carried.proofs.Readings.{length-body, fits-carriers, Passed, checked-passes}
 use Rattle.carried.proofs.Walks.{Walk, end, one, walk-of, sized-at}
 use Rattle.o32.specs.declared.State.{State}
-use Rattle.o32.specs.declared.Placement.{Placement}
-use Rattle.o32.specs.Kinds.{kindOf}
 use Rattle.o32.specs.O32.{O32, area}
 use Rattle.placement.proofs.Laws.{O32-laws}
-use Rattle.placement.proofs.Steps.{step-says}
+use Rattle.records.specs.Records.{listLength}
 use Rattle.measure.specs.declared.Measured.{Measured}
 use Rattle.measure.specs.declared.Measured.the-variants as M
 use Rattle.measure.specs.Measured.{measured}
-use Rattle.reader.specs.declared.Room.the-variants as R
 use Rattle.reader.specs.declared.Checked.{Checked}
 use Rattle.reader.specs.declared.Checked.the-variants as K
-use Rattle.reader.specs.Reading.{listLength, roomFor, firstImproper, improperIn, readingIn, delivered, Readable}
+use Rattle.reader.specs.Reading.{firstImproper, improperIn, readingIn, delivered, Readable}
 use Rattle.answers.specs.declared.Answer.{Answer}
 use Rattle.answers.specs.Answers.{answerOf, bufferOf}
 use Rattle.call.specs.Answers.{readInto, readWith}
 
--- the length of a reading is the signature's
-reading-length : {st last : State} {ks : List ℕ} {L : List Placed} → Walk O32 O32-laws st ks L last → (img : List ℕ) → length (reading L img) ≡ listLength ks
+-- the length of a reading is that of its records
+reading-length : {st last : State} {ks : List ℕ} {L : List Placed} → Walk O32 O32-laws st ks L last → (img : List ℕ) → length (reading L img) ≡ listLength L
 reading-length end img = refl
 reading-length (one {st = st} {st′ = st′} {k = k} {p = p} {L = L} e f w) img =
     let s : Placed = O32 .placedAt k p in
-    let b : length (body (s .size) (gather img (s .carriers))) ≡ p .kind .size = length-body s img (fits-carriers s (sized-at O32 O32-laws {st = st} {k = k} e)) in
-    let z : p .kind .size ≡ kindOf k .size = ap (λ (x : Placement). x .kind .size) (step-says st k p st′ e .at) in
-    ap suc (length-append (body (s .size) (gather img (s .carriers))) (reading L img) ∙ ap₂ (λ (x y : ℕ). x + y) (b ∙ z) (reading-length w img))
+    let b : length (body (s .size) (gather img (s .carriers))) ≡ s .size = length-body s img (fits-carriers s (sized-at O32 O32-laws {st = st} {k = k} e)) in
+    ap suc (length-append (body (s .size) (gather img (s .carriers))) (reading L img) ∙ ap₂ (λ (x y : ℕ). x + y) b (reading-length w img))
 
 -- refusal 8 by the first improper record
 abbrev judged : ℕ → List Placed → List ℕ → C.Answer → Checked → Type 0
@@ -58,15 +54,26 @@ judge (s ∷ L) img at a = go (proper (s .extension) (s .size) (gather img (s .c
 judged-by : (L : List Placed) (img : List ℕ) (a : C.Answer) (q : Checked) → q ≡ firstImproper 0 L img → judged 0 L img a q
 judged-by L img a q e = rw e (judge L img 0 a)
 
--- the first pass has accepted the signature, and the image is as long as it says
-pub readable : (sig img : List ℕ) (count last-end n : ℕ) → M.Accepted count last-end ≡ measured (plan O32 false sig) → n ≡ 32 + area last-end → length img ≡ n → Readable sig img
-readable sig img count last-end n e g l = go (plan O32 false sig) refl e
+-- the first pass has accepted the signature, n is the list's length, and the image is as long as it says
+pub record Found (sig img : List ℕ) (n : ℕ) : Type 0 where
+  pub readable : Readable sig img
+  pub long : n ≡ length (reading (readable .placed) img)
+
+pub found : (sig img : List ℕ) (n last-end m : ℕ) → M.Accepted n last-end ≡ measured (plan O32 false sig) → m ≡ 32 + area last-end → length img ≡ m → Found sig img n
+found sig img n last-end m e g l = go (plan O32 false sig) refl e
   where
-    go : (q : Plan State) → plan O32 false sig ≡ q → M.Accepted count last-end ≡ measured q → Readable sig img
+    go : (q : Plan State) → plan O32 false sig ≡ q → M.Accepted n last-end ≡ measured q → Found sig img n
     go (bad r at) f h = let z : _≡_ {A = ℕ} 0 1 = cc in absurd (omega arith)
     go (good L st) f h =
         let i : last-end ≡ st .end = cc in
-        record { placed = L; last = st; planned = f; whole = l ∙ g ∙ ap (λ (x : ℕ). 32 + area x) i }
+        let k : n ≡ listLength L = cc in
+        record {
+          readable = record { placed = L; last = st; planned = f; whole = l ∙ g ∙ ap (λ (x : ℕ). 32 + area x) i };
+          long = k ∙ sym (reading-length (walk-of O32 O32-laws sig (O32 .start) L st 0 f) img);
+        }
+
+done-answer : (n : ℕ) (x : List ℕ) (a : C.Answer) → n ≡ length x → a ≡ C.done x → record { refusal = 0; place = 0; length = n } ≡ answerOf a
+done-answer n x a e g = rw (g, e) refl
 
 pub record Right (sig img out : List ℕ) (a : Answer) (o : List ℕ) : Type 0 where
   pub answer : a ≡ answerOf (readInto sig img (length out))
@@ -83,53 +90,41 @@ module _ (sig img out : List ℕ) where
           record { answer = i ∙ rw (f, x, y); buffer = rw f }
       go (good L st) f h = let z : _≡_ {A = ℕ} 0 1 = cc in absurd (omega arith)
 
-  pub read-wrong : (count last-end n : ℕ) → M.Accepted count last-end ≡ measured (plan O32 false sig) → n ≡ 32 + area last-end → (length img ≡ n → ⊥) → Right sig img out (record { refusal = 6; place = 0; length = 0 }) out
-  read-wrong count last-end n e g l = go (plan O32 false sig) refl e
+  pub read-wrong : (long last-end n : ℕ) → M.Accepted long last-end ≡ measured (plan O32 false sig) → n ≡ 32 + area last-end → (length img ≡ n → ⊥) → Right sig img out (record { refusal = 6; place = 0; length = 0 }) out
+  read-wrong long last-end n e g l = go (plan O32 false sig) refl e
     where
-      go : (q : Plan State) → plan O32 false sig ≡ q → M.Accepted count last-end ≡ measured q → Right sig img out (record { refusal = 6; place = 0; length = 0 }) out
+      go : (q : Plan State) → plan O32 false sig ≡ q → M.Accepted long last-end ≡ measured q → Right sig img out (record { refusal = 6; place = 0; length = 0 }) out
       go (bad r at) f h = let z : _≡_ {A = ℕ} 0 1 = cc in absurd (omega arith)
       go (good L st) f h =
           let i : last-end ≡ st .end = cc in
           let k : eqb (length img) (32 + area (st .end)) ≡ false = ne-eqb (length img) (32 + area (st .end)) (λ x. l (x ∙ sym (g ∙ ap (λ (y : ℕ). 32 + area y) i))) in
           record { answer = rw (f, k); buffer = rw (f, k) }
 
-  module _ (w : Readable sig img) where
+  module _ (n : ℕ) (v : Found sig img n) where
+    abbrev w : Readable sig img
+    w = v .readable
+
     same-length : eqb (length img) (32 + area (w .last .end)) ≡ true
     same-length = eq-eqb (length img) (32 + area (w .last .end)) (w .whole)
 
-    long : length (reading (w .placed) img) ≡ listLength sig
-    long = reading-length (walk-of O32 O32-laws sig (O32 .start) (w .placed) (w .last) 0 (w .planned)) img
-
-    pub read-short : R.Short ≡ roomFor (length out) (listLength sig) → Right sig img out (record { refusal = 7; place = 0; length = 0 }) out
-    read-short e =
-        let k : ltb (length out) (length (reading (w .placed) img)) ≡ true = rw long (go (ltb (length out) (listLength sig)) e) in
+    pub read-short : length out < n → Right sig img out (record { refusal = 7; place = 0; length = 0 }) out
+    read-short l =
+        let k : ltb (length out) (length (reading (w .placed) img)) ≡ true = lt-ltb (length out) (length (reading (w .placed) img)) (omega (arith, v .long)) in
         record { answer = rw (w .planned, same-length, k); buffer = rw (w .planned, same-length, k) }
-      where
-        go : (t : Bool) → R.Short ≡ cond t R.Short (R.Enough (listLength sig)) → t ≡ true
-        go true e = refl
-        go false e = cc
 
-    module _ (n : ℕ) (e : R.Enough n ≡ roomFor (length out) (listLength sig)) where
+    module _ (l : n ≤ length out) where
       enough : ltb (length out) (length (reading (w .placed) img)) ≡ false
-      enough = rw long (go (ltb (length out) (listLength sig)) e)
-        where
-          go : (t : Bool) → R.Enough n ≡ cond t R.Short (R.Enough (listLength sig)) → t ≡ false
-          go true e = cc
-          go false e = refl
+      enough = le-ltb (length out) (length (reading (w .placed) img)) (omega (arith, v .long))
 
-      counted : n ≡ listLength sig
-      counted = go (ltb (length out) (listLength sig)) e
-        where
-          go : (t : Bool) → R.Enough n ≡ cond t R.Short (R.Enough (listLength sig)) → n ≡ listLength sig
-          go true e = cc
-          go false e = cc
+      abbrev list : List ℕ
+      list = readingIn (plan O32 false sig) img
 
-      pub read-room : listLength sig ≤ length out
-      read-room = rw long at (ltb-false (length out) (length (reading (w .placed) img)) enough)
+      pub read-room : length list ≤ length out
+      read-room = rw (w .planned) (omega (arith, v .long))
 
       -- what the last pass has left: q is what it found, o the buffer
       abbrev left : Checked → List ℕ
-      left q = delivered q (readingIn (plan O32 false sig) img ++ drop (listLength sig) out) out
+      left q = delivered q (list ++ drop (length list) out) out
 
       pub read-improper : (q : Checked) (p : ℕ) (a : Answer) (o : List ℕ) → q ≡ improperIn (plan O32 false sig) img → o ≡ left (improperIn (plan O32 false sig) img)
           → q ≡ K.Improper p → a ≡ record { refusal = 8; place = p; length = 0 } → Right sig img out a o
@@ -144,8 +139,8 @@ module _ (sig img out : List ℕ) where
           let c : C.checked 0 (w .placed) img (C.done (reading (w .placed) img)) ≡ C.done (reading (w .placed) img) =
           rw j at (judged-by (w .placed) img (C.done (reading (w .placed) img)) q (i ∙ rw (w .planned))) in
           record {
-            answer = rw (counted, ← long) (rw (w .planned, same-length, enough, c));
-            buffer = l ∙ ap left (sym i ∙ j) ∙ rw (w .planned, same-length, enough, c, long);
+            answer = done-answer n (reading (w .placed) img) (readInto sig img (length out)) (v .long) (rw (w .planned, same-length, enough, c));
+            buffer = l ∙ ap left (sym i ∙ j) ∙ rw (w .planned, same-length, enough, c);
           }
 
 -- ---- the reader with a buffer gives a list exactly where the theorem's reader gives it and it fits

@@ -3,7 +3,7 @@
 use mathlib.Core.Path.{_≡_, refl, sym, ap, _∙_}
 use mathlib.Core.List.{List, _++_}
 use mathlib.Core.Bool.{Bool, true, false, cond}
-use Prim.Native.Nat.{ℕ, _+_, _-_, _≤_, _<_}
+use Prim.Native.Nat.{ℕ, _+_, _≤_, _<_}
 use mathlib.Core.Logic.{_↔_}
 use native.Mathlib.Omega.{arith}
 use lib.ListN.{length, drop, replicate, length-replicate}
@@ -26,19 +26,19 @@ use Rattle.answers.specs.Answers.{answerOf, bufferOf, within}
 use Rattle.call.specs.Answers.{writeInto}
 
 -- the first pass has found an image's length
-pub fillable : (list : List ℕ) (count end n : ℕ) → M.Accepted count end ≡ measured (plan O32 true list) → n ≡ 32 + area end → Fillable list n
-fillable list count end n e g = go (plan O32 true list) refl e
+pub fillable : (list : List ℕ) (long end n : ℕ) → M.Accepted long end ≡ measured (plan O32 true list) → n ≡ 32 + area end → Fillable list n
+fillable list long end n e g = go (plan O32 true list) refl e
   where
-    go : (q : Plan State) → plan O32 true list ≡ q → M.Accepted count end ≡ measured q → Fillable list n
+    go : (q : Plan State) → plan O32 true list ≡ q → M.Accepted long end ≡ measured q → Fillable list n
     go (bad r at) f h = let z : _≡_ {A = ℕ} 0 1 = cc in absurd (omega arith)
     go (good L st) f h =
         let i : end ≡ st .end = cc in
         record { placed = L; last = st; planned = f; whole = g ∙ ap (λ (x : ℕ). 32 + area x) i }
 
-pub end-in-bounds : (bodies : Bool) (list : List ℕ) (count end : ℕ) → M.Accepted count end ≡ measured (plan O32 bodies list) → end ≤ 1024
-end-in-bounds bodies list count end e = go (plan O32 bodies list) refl e
+pub end-in-bounds : (bodies : Bool) (list : List ℕ) (long end : ℕ) → M.Accepted long end ≡ measured (plan O32 bodies list) → end ≤ 1024
+end-in-bounds bodies list long end e = go (plan O32 bodies list) refl e
   where
-    go : (q : Plan State) → plan O32 bodies list ≡ q → M.Accepted count end ≡ measured q → end ≤ 1024
+    go : (q : Plan State) → plan O32 bodies list ≡ q → M.Accepted long end ≡ measured q → end ≤ 1024
     go (bad r at) f h = let z : _≡_ {A = ℕ} 0 1 = cc in absurd (omega arith)
     go (good L st) f h =
         let i : end ≡ st .end = cc in

@@ -8,7 +8,6 @@ ghost use Rattle.call.specs.Answers.{readInto, writeInto};
 use answers::Answer;
 use measure::Measured;
 use reader::Checked;
-use reader::Room;
 
 // The answer of a list or signature that is refused.
 fn refused(found: Measured) -> Answer
@@ -37,7 +36,7 @@ pub fn write(list: &[u8], out: &mut [u8]) -> Answer
     ensures buffer { λ _. ⌜ now (out .exit) ≡ bufferOf (writeInto (now (list .entry)) (length (now (out .entry)))) (now (out .entry)) ⌝ }
 {
     let found = measure::measure_list(list);
-    let Measured::Accepted { count: _, end } = found else {
+    let Measured::Accepted { length: _, end } = found else {
         return refused(found);
     };
     let length = image_length(end);
@@ -65,16 +64,15 @@ pub fn read(signature: &[u8], image: &[u8], out: &mut [u8]) -> Answer
     ensures buffer { λ _. ⌜ now (out .exit) ≡ bufferOf (readInto (now (signature .entry)) (now (image .entry)) (length (now (out .entry)))) (now (out .entry)) ⌝ }
 {
     let found = measure::measure_signature(signature);
-    let Measured::Accepted { count: _, end } = found else {
+    let Measured::Accepted { length: n, end } = found else {
         return refused(found);
     };
     if image.len() != image_length(end) {
         return answers::reply(6, 0, 0);
     }
-    let room = reader::list_length(signature, out.len());
-    let Room::Enough(n) = room else {
-        return answers::reply(7, 0, 0);
-    };
+    if out.len() < n {
+        return answers::reply(7, 0, 0); // the list does not fit
+    }
     let checked = reader::deliver(signature, image, out);
     let Checked::Proper = checked else {
         return improper(checked);

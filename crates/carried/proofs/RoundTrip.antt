@@ -3,17 +3,16 @@
 use mathlib.Core.Path.{_≡_, refl, sym, ap, ap₂, _∙_, subst}
 use mathlib.Core.List.{List, [], _∷_, _++_}
 use mathlib.Core.Bool.{Bool, true, false, cond}
-use Prim.Native.Nat.{ℕ, zero, suc, _+_, _-_, _≤_, _<_}
+use Prim.Native.Nat.{ℕ, zero, suc, _+_, _-_, _≤_}
 use native.Mathlib.Omega.{arith}
-use native.Mathlib.Nat.{sub-self}
-use lib.ListN.{length, take, drop, replicate, length-append, length-replicate, length-drop, take-append-drop}
-use lib.Seq.{take-at, drop-at, take-nil, drop-nil, length-take-le}
+use lib.ListN.{length, take, drop, replicate, length-append, length-replicate, take-append-drop}
+use lib.Seq.{take-at, drop-at, drop-nil, length-take-le}
 use lib.Dec.{ltb, T}
 use borrow.Author.Tests.{le-ltb, ltb-false}
-use Rattle.words.specs.Words.{promote, front, body, same, proper}
+use Rattle.words.specs.Words.{promote, front, body, same}
 use Rattle.words.proofs.Bytes.{same-refl}
-use Rattle.carried.specs.Image.{gather, put, Placed, carried, promotedBytes, image, reading, done}
-use Rattle.carried.specs.Convention.{Step, refuse, next, Convention, Plan, bad, good, also, behind, limited, after, from, plan, write, read}
+use Rattle.carried.specs.Image.{gather, Placed, carried, promotedBytes, image, reading, done}
+use Rattle.carried.specs.Convention.{Step, refuse, next, Convention, Plan, bad, good, also, behind, limited, after, from, plan}
 use Rattle.carried.specs.Demand.{Sized, kinds, OneEach, AllProper, Accepted, RoundTrip}
 use Rattle.carried.proofs.Places.{length-gather, gather-append, length-put, gather-put}
 use Rattle.carried.proofs.Walks.{StepLaws, StepLawful, Laws, Walk, end, one, walked, walk-kinds, walk-one-each}

@@ -14,7 +14,8 @@ use borrow.Author.Tests.{eqb-true}
 use Rattle.words.specs.Words.{bytesOf}
 use Rattle.saves.specs.Masks.{bit, named, below}
 use Rattle.saves.specs.Words.{Save, collect, wordOf, bytesOfWords}
-use Rattle.saves.proofs.Masks.{bit-no}
+use Rattle.saves.proofs.Masks.{bit-no, below-none}
+use Rattle.saves.proofs.Collect.{collect-none}
 
 -- the shift in the code
 pub shifted : (k : ℕ) → k < 32 → 1 * 2 ^ k % 2 ^ 32 ≡ 2 ^ k
@@ -58,9 +59,11 @@ pub record Put (op size : ℕ) (saves : ℕ → List Save) (m at : ℕ) (l : Lis
   pub place : n ≡ at + size * below m k
   pub bytes : out ≡ sets l at (code op (collect saves m k))
 
-pub none : (op size : ℕ) (saves : ℕ → List Save) (m at : ℕ) (l : List ℕ) → Put op size saves m at l 0 at l
-unfolding collect below
-none op size saves m at l = record { place = omega (arith, mul-zero size); bytes = refl }
+-- nothing is put below k where a mask has no bit there
+pub none : (op size : ℕ) (saves : ℕ → List Save) (m at : ℕ) (l : List ℕ) (k : ℕ) → m % 2 ^ k ≡ 0 → Put op size saves m at l k at l
+none op size saves m at l k h =
+    let z = below-none m k h in
+    record { place = rw z (omega (arith, mul-zero size)); bytes = rw (collect-none saves m k z) }
 
 pub length-code : (op size : ℕ) (saves : ℕ → List Save) → ((j : ℕ) → length (code op (saves j)) ≡ size)
     → (m k : ℕ) → length (code op (collect saves m k)) ≡ size * below m k

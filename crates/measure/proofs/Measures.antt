@@ -1,60 +1,104 @@
 -- The walk over records: what holds at each turn, at the end, and where a record is refused.
 -- Assumes nothing.
-use mathlib.Core.Path.{_≡_, refl, sym, ap, _∙_}
+use mathlib.Core.Path.{_≡_, refl, sym, ap, _∙_, subst}
 use mathlib.Core.List.{List}
 use mathlib.Core.Bool.{Bool}
 use Prim.Native.Nat.{ℕ, _+_, _-_, _^_, _≤_, _<_}
 use native.Mathlib.Omega.{arith}
 use lib.ListN.{length, getD}
 use Rattle.carried.specs.Image.{Placed}
-use Rattle.carried.specs.Convention.{next, Plan, bad, good, also, behind, taken, plan}
+use Rattle.carried.specs.Convention.{Plan, bad, good, also, behind, taken, plan}
 use Rattle.carried.proofs.Records.{onFrom, finished, stopped, within, passed}
+use Rattle.o32.specs.declared.Kind.{Kind}
 use Rattle.o32.specs.declared.State.{State}
-use Rattle.o32.specs.declared.Placement.{Placement}
+use Rattle.o32.specs.Kinds.{kindOf}
+use Rattle.o32.specs.O32.{O32, onward, placement}
+use Rattle.placement.proofs.KindFacts.{kind-sound}
+use Rattle.placement.proofs.Bounds.{room, Grown, Grows, grows, one-marker}
 use Rattle.records.specs.declared.Record.{Record}
 use Rattle.records.specs.declared.Record.the-variants as R
+use Rattle.records.specs.Records.{recordOf}
+use Rattle.records.proofs.Taken.{step-refused, Took, took}
 use Rattle.measure.specs.declared.Measured.{Measured}
 use Rattle.measure.specs.declared.Measured.the-variants as M
-use Rattle.o32.specs.O32.{O32}
-use Rattle.records.specs.Records.{recordOf}
-use Rattle.records.proofs.Answered.{step-refused, step-taken}
 use Rattle.measure.specs.Measured.{measured}
 
-measured-also : (s : Placed) (p : Plan State) → measured (also s p) ≡ measured p
-measured-also s (bad r at) = refl
-measured-also s (good L st) = refl
+-- the answer, where records of n bytes stand before
+abbrev further : ℕ → Measured → Measured
+further n (M.Refused r p) = M.Refused r p
+further n (M.Accepted m e) = M.Accepted (n + m) e
 
--- at this place and state the walk has found what the whole list has
-pub record Walking (bodies : Bool) (list : List ℕ) (st : State) (at : ℕ) : Type 0 where
+further-also : (n : ℕ) (s : Placed) (q : Plan State) → further n (measured (also s q)) ≡ further (n + 1 + s .size) (measured q)
+further-also n s (bad r at) = refl
+further-also n s (good L st) = ap (λ (x : ℕ). M.Accepted x (st .end)) (omega arith)
+
+further-none : (q : Measured) → further 0 q ≡ q
+further-none (M.Refused r p) = refl
+further-none (M.Accepted m e) = ap (λ (x : ℕ). M.Accepted x e) (omega arith)
+
+-- at this place and state, behind records of n bytes, the walk has found what the whole list has
+pub record Walking (bodies : Bool) (list : List ℕ) (st : State) (n at : ℕ) : Type 0 where
   pub inside : at ≤ length list
-  pub ahead : measured (plan O32 bodies list) ≡ measured (onFrom O32 bodies list at st)
+  pub ahead : measured (plan O32 bodies list) ≡ further n (measured (onFrom O32 bodies list at st))
+  pub before : n ≤ room st
+  pub fits : st .end ≤ 1024
+  pub few : st .count ≤ 32
 
-pub walk-starts : (bodies : Bool) (list : List ℕ) (st : State) → st ≡ O32 .start → Walking bodies list st 0
-walk-starts bodies list st e = record { inside = omega arith; ahead = rw e refl }
+pub walk-starts : (bodies : Bool) (list : List ℕ) (st : State) → st ≡ O32 .start → Walking bodies list st 0 0
+walk-starts bodies list st e = record {
+  inside = omega arith;
+  ahead = rw e (sym (further-none (measured (plan O32 bodies list))));
+  before = omega arith;
+  fits = rw e (omega arith);
+  few = rw e (omega arith);
+}
 
-pub walk-ends : (bodies : Bool) (list : List ℕ) (st : State) (at : ℕ) → Walking bodies list st at → length list ≤ at → M.Accepted (st .count) (st .end) ≡ measured (plan O32 bodies list)
-walk-ends bodies list st at w h = sym (w .ahead ∙ ap measured (finished O32 bodies list at st (w .inside) h))
+pub walk-ends : (bodies : Bool) (list : List ℕ) (st : State) (n at : ℕ) → Walking bodies list st n at → length list ≤ at → M.Accepted n (st .end) ≡ measured (plan O32 bodies list)
+walk-ends bodies list st n at w h =
+    sym (w .ahead ∙ ap (λ (q : Plan State). further n (measured q)) (finished O32 bodies list at st (w .inside) h) ∙ ap (λ (x : ℕ). M.Accepted x (st .end)) (omega arith))
 
-module _ (bodies : Bool) (list : List ℕ) (st : State) (at : ℕ) (w : Walking bodies list st at) (h : at < length list)
+pub walk-counts : (bodies : Bool) (list : List ℕ) (st : State) (n at : ℕ) → Walking bodies list st n at → n ≤ 1057
+walk-counts bodies list st n at w = omega (arith, w .before, w .fits, w .few, one-marker (st .marked))
+
+module _ (bodies : Bool) (list : List ℕ) (st : State) (n at : ℕ) (w : Walking bodies list st n at) (h : at < length list)
     (t : Record) (e : t ≡ recordOf (taken O32 bodies (length list - (at + 1)) st (getD list at 0))) where
+  abbrev k : ℕ
+  k = getD list at 0
+
   pub walk-refused : (r : ℕ) (m : Measured) → t ≡ R.Refused r → m ≡ M.Refused r at → m ≡ measured (plan O32 bodies list)
-  walk-refused r m g q = q ∙ sym (w .ahead ∙ ap measured (stopped O32 bodies list at st h r (step-refused _ r (sym e ∙ g))))
+  walk-refused r m g q = q ∙ sym (w .ahead ∙ ap (λ (p : Plan State). further n (measured p)) (stopped O32 bodies list at st h r (step-refused _ r (sym e ∙ g))))
 
-  module _ (p : Placement) (st′ : State) (g : t ≡ R.Taken p st′) (n : ℕ) (b : n ≡ behind bodies (p .kind .size)) where
-    went : taken O32 bodies (length list - (at + 1)) st (getD list at 0) ≡ next p st′
-    went = step-taken _ p st′ (sym e ∙ g)
+  module _ (kd : Kind) (st′ : State) (g : t ≡ R.Taken kd st′) where
+    here : Took bodies (length list - (at + 1)) st k kd st′
+    here = took bodies st k (length list - (at + 1)) kd st′ (sym g ∙ e)
 
-    pub walk-within : at + 1 + n ≤ length list
-    walk-within = rw b (within O32 bodies list at st h p st′ went)
+    grew : Grown st (kindOf k) (placement st (kindOf k)) (onward st (kindOf k))
+    grew = subst (Grows st (kindOf k)) (here .placed .step) (grows st (kindOf k) (kind-sound k))
 
-    pub walk-fits : length list < 2 ^ 64 → at + 1 + n < 2 ^ 64
-    walk-fits l = omega (arith, walk-within)
+    size-is : kd .size ≡ kindOf k .size
+    size-is = ap (λ (x : Kind). x .size) (here .kind)
 
-    pub walk-less : length list - (at + 1 + n) < length list - at
-    walk-less = omega (arith, walk-within)
+    pub walk-adds : n + 1 + kd .size < 2 ^ 64
+    walk-adds = omega (arith, walk-counts bodies list st n at w, size-is, kind-sound k .small)
 
-    pub walk-goes : Walking bodies list st′ (at + 1 + n)
-    walk-goes = record {
-      inside = walk-within;
-      ahead = rw b (w .ahead ∙ ap measured (passed O32 bodies list at st h p st′ went) ∙ measured-also (O32 .placedAt (getD list at 0) p) (onFrom O32 bodies list (at + 1 + behind bodies (p .kind .size)) st′));
-    }
+    module _ (b : ℕ) (i : b ≡ behind bodies (kd .size)) where
+      walk-within : at + 1 + b ≤ length list
+      walk-within = rw (i, here .kind) (within O32 bodies list at st h (placement st (kindOf k)) (onward st (kindOf k)) (here .placed .whole))
+
+      pub walk-fits : length list < 2 ^ 64 → at + 1 + b < 2 ^ 64
+      walk-fits l = omega (arith, walk-within)
+
+      pub walk-less : length list - (at + 1 + b) < length list - at
+      walk-less = omega (arith, walk-within)
+
+      pub walk-goes : Walking bodies list st′ (n + 1 + kd .size) (at + 1 + b)
+      walk-goes = rw (here .state) (record {
+        inside = walk-within;
+        ahead =
+            rw (i, here .kind) (w .ahead
+            ∙ ap (λ (q : Plan State). further n (measured q)) (passed O32 bodies list at st h (placement st (kindOf k)) (onward st (kindOf k)) (here .placed .whole))
+            ∙ further-also n (O32 .placedAt k (placement st (kindOf k))) (onFrom O32 bodies list (at + 1 + behind bodies (kindOf k .size)) (onward st (kindOf k))));
+        before = omega (arith, w .before, grew .more, size-is);
+        fits = here .placed .fits;
+        few = grew .few (w .few);
+      })

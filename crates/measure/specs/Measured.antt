@@ -1,10 +1,11 @@
 -- What the contracts of the first walk cite beside the definitions: its enum, case by case.
 use Rattle.carried.specs.Convention.{Plan, bad, good}
 use Rattle.o32.specs.declared.State.{State}
+use Rattle.records.specs.Records.{listLength}
 use Rattle.measure.specs.declared.Measured.{Measured}
 use Rattle.measure.specs.declared.Measured.the-variants as M
 
--- The answer of a whole list or signature: the refusal and its place, or the count of arguments and the last one's end.
+-- The answer of a whole list or signature: the refusal and its place, or the length of the list and its last argument's end.
 abbrev pub measured : Plan State → Measured
 measured (bad r at) = M.Refused r at
-measured (good L st) = M.Accepted (st .count) (st .end)
+measured (good L st) = M.Accepted (listLength L) (st .end)

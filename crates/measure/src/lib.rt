@@ -7,10 +7,10 @@ ghost use Rattle.o32.specs.O32.{O32};
 ghost use Rattle.measure.specs.Measured.{measured};
 use records::Record;
 
-// What a list or a signature answers: the first refusal and its place, or the count of arguments and the last one's end.
+// What a list or a signature answers: the first refusal and its place, or the length of the list and its last argument's end.
 pub enum Measured {
     Refused { number: u32, place: usize },
-    Accepted { count: usize, end: usize },
+    Accepted { length: usize, end: usize },
 }
 
 // A refused record's answer, as that of the whole.
@@ -19,7 +19,7 @@ fn refusal(answer: Record, place: usize) -> Measured
 {
     match answer {
         Record::Refused(number) => Measured::Refused { number, place },
-        _ => Measured::Accepted { count: 0, end: 0 },
+        _ => Measured::Accepted { length: 0, end: 0 },
     }
 }
 
@@ -28,31 +28,32 @@ fn measure(list: &[u8], bodies: bool) -> Measured
     ensures { λ r. ⌜ r ≡ measured (plan O32 bodies (now (list .entry))) ⌝ }
 {
     let mut st = records::start();
+    let mut length = 0;
     let mut at = 0;
     while at < list.len() {
         let left = list.len() - (at + 1);
         let answer = records::take(st, list[at], bodies, left);
-        let Record::Taken { placement, next } = answer else {
+        let Record::Taken { kind, next } = answer else {
             return refusal(answer, at);
         };
-        let kind = placement.kind;
+        length = length + 1 + kind.size;
         at = at + 1 + records::body_behind(bodies, kind.size);
         st = next;
     }
     Measured::Accepted {
-        count: st.count,
+        length,
         end: st.end,
     }
 }
 
-// The records of a list: refusals 1 to 5 with their place, or the count of arguments and the last one's end.
+// The records of a list: refusals 1 to 5 with their place, or the length of the list and its last argument's end.
 pub fn measure_list(list: &[u8]) -> Measured
     ensures { λ r. ⌜ r ≡ measured (plan O32 true (now (list .entry))) ⌝ }
 {
     measure(list, true)
 }
 
-// The records of a signature: refusals 1, 2, 3 and 5 with their place, or the count of arguments and the last one's end.
+// The records of a signature: refusals 1, 2, 3 and 5 with their place, or the length of the list and its last argument's end.
 pub fn measure_signature(signature: &[u8]) -> Measured
     ensures { λ r. ⌜ r ≡ measured (plan O32 false (now (signature .entry))) ⌝ }
 {

@@ -68,13 +68,17 @@ onward st k = cond (is Marker k)
       marked = st .marked;
     })
 
+-- The placement of a record: rules 2 and 3.
+abbrev pub placement : State → Kind → Placement
+placement st k = record { kind = k; offset = offset k (st .end); register = register st k }
+
 -- Refusals 1, 2 and 3 in their order, or the record's placement.
 abbrev pub stepped : State → Kind → Step Placement State
 stepped st k =
     cond (is Unknown k) (refuse 1)
     (cond (misplaced st k) (refuse 2)
     (cond (full st k) (refuse 3)
-    (next (record { kind = k; offset = offset k (st .end); register = register st k }) (onward st k))))
+    (next (placement st k) (onward st k))))
 
 -- The convention. "The end may be at most 1,024" (rule 5, refusal 5). "Its length is 32 + A".
 abbrev pub O32 : Convention

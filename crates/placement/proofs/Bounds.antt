@@ -17,24 +17,23 @@ use Rattle.o32.specs.declared.State.{State}
 use Rattle.o32.specs.declared.Placement.{Placement}
 use Rattle.o32.specs.Kinds.{kindOf, is}
 use Rattle.o32.specs.Offsets.{width}
-use Rattle.o32.specs.O32.{misplaced, full, onward, stepped, O32}
+use Rattle.o32.specs.O32.{misplaced, full, onward, placement, stepped, O32}
 use Rattle.placement.proofs.KindFacts.{Sound, kind-sound}
 use Rattle.placement.proofs.Laws.{up-ge}
-use Rattle.placement.proofs.Steps.{placement}
 
 -- ---- one step
 
 -- how many bytes of a list can stand before this state
-abbrev room : State → ℕ
+abbrev pub room : State → ℕ
 room st = st .end + st .count + cond (st .marked) 1 0
 
 -- a record that is placed has room for its kind byte and its body
-record Grown (st : State) (k : Kind) (p : Placement) (st′ : State) : Type 0 where
-  size : p .kind .size ≡ k .size
-  more : room st + 1 + k .size ≤ room st′
-  few : st .count ≤ 32 → st′ .count ≤ 32
+pub record Grown (st : State) (k : Kind) (p : Placement) (st′ : State) : Type 0 where
+  pub size : p .kind .size ≡ k .size
+  pub more : room st + 1 + k .size ≤ room st′
+  pub few : st .count ≤ 32 → st′ .count ≤ 32
 
-abbrev Grows : State → Kind → Step Placement State → Type 0
+abbrev pub Grows : State → Kind → Step Placement State → Type 0
 Grows st k (refuse r) = Unit {0}
 Grows st k (next p st′) = Grown st k p st′
 
@@ -74,7 +73,7 @@ module _ (st : State) (k : Kind) (s : Sound k) where
             few = rw g (λ h. omega (arith, leb-false 32 (st .count) n));
           }
 
-  grows : Grows st k (stepped st k)
+  pub grows : Grows st k (stepped st k)
   grows = go (is Unknown k) (misplaced st k) (full st k) refl refl refl
     where
       go : (u m f : Bool) → is Unknown k ≡ u → misplaced st k ≡ m → full st k ≡ f
@@ -102,7 +101,7 @@ abbrev Reaches : ℕ → Plan State → Type 0
 Reaches n (bad r p) = p ≤ 1057
 Reaches n (good L last) = Reached n last
 
-one-marker : (t : Bool) → cond t 1 0 ≤ 1
+pub one-marker : (t : Bool) → cond t 1 0 ≤ 1
 one-marker true = omega arith
 one-marker false = omega arith
 

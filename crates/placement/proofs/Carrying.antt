@@ -19,10 +19,10 @@ use Rattle.o32.specs.declared.State.{State}
 use Rattle.o32.specs.declared.Placement.{Placement}
 use Rattle.o32.specs.Kinds.{kindOf, is, classNumber}
 use Rattle.o32.specs.Offsets.{width, offset, ending}
-use Rattle.o32.specs.O32.{register, run, registerWord, floatBytes, carrier, carriers, misplaced, onward, O32}
+use Rattle.o32.specs.O32.{register, run, registerWord, floatBytes, carrier, carriers, misplaced, onward, placement, O32}
 use Rattle.placement.specs.Carrying.{endOf, registerBehind, CarriedAt}
 use Rattle.placement.proofs.KindFacts.{kind-sound}
-use Rattle.placement.proofs.Steps.{placement, Stepped, Says, says}
+use Rattle.placement.proofs.Steps.{Stepped, Says, says}
 use Rattle.placement.proofs.Laws.{O32-laws, length-span, length-float}
 
 -- ---- the state behind some kinds

@@ -3,7 +3,7 @@
 use mathlib.Core.Path.{_≡_, refl, ap, _∙_, subst}
 use mathlib.Core.Logic.{_⊎_, inl, inr}
 use mathlib.Core.Bool.{Bool, true, false, cond, not, _&&_}
-use Prim.Native.Nat.{ℕ, _+_, _-_, _%_, _≤_}
+use Prim.Native.Nat.{ℕ, _+_, _%_, _≤_}
 use native.Mathlib.Omega.{arith}
 use native.Mathlib.Nat.{mul-zero}
 use lib.Dec.{eqb}
@@ -16,43 +16,34 @@ use Rattle.o32.specs.declared.Placement.{Placement}
 use Rattle.o32.specs.Kinds.{kindOf, is, classNumber}
 use Rattle.words.specs.Words.{up}
 use Rattle.o32.specs.Offsets.{width, offset}
-use Rattle.o32.specs.O32.{register, misplaced, full, onward, stepped, O32}
+use Rattle.o32.specs.O32.{register, misplaced, full, onward, placement, stepped, O32}
 use Rattle.placement.proofs.KindFacts.{kind-sound}
 use Rattle.placement.proofs.Laws.{up-ge}
-
-abbrev pub placement : State → Kind → Placement
-placement st k = record { kind = k; offset = offset k (st .end); register = register st k }
 
 pub record Stepped (st : State) (k : Kind) (p : Placement) (st′ : State) : Type 0 where
   pub at : p ≡ placement st k
   pub on : st′ ≡ onward st k
   pub known : is Unknown k ≡ false
   pub rightly : misplaced st k ≡ false
+  pub few : full st k ≡ false
 
 abbrev pub Says : State → Kind → Step Placement State → Type 0
 Says st k (refuse r) = Unit {0}
 Says st k (next p st′) = Stepped st k p st′
 
 pub says : (st : State) (k : Kind) → Says st k (stepped st k)
-says st k = go (is Unknown k) (misplaced st k) (full st k) refl refl
+says st k = go (is Unknown k) (misplaced st k) (full st k) refl refl refl
   where
-    go : (u m f : Bool) → is Unknown k ≡ u → misplaced st k ≡ m → Says st k (cond u (refuse 1) (cond m (refuse 2) (cond f (refuse 3) (next (placement st k) (onward st k)))))
-    go true m f d e = tt
-    go false true f d e = tt
-    go false false true d e = tt
-    go false false false d e = record { at = refl; on = refl; known = d; rightly = e }
+    go : (u m f : Bool) → is Unknown k ≡ u → misplaced st k ≡ m → full st k ≡ f → Says st k (cond u (refuse 1) (cond m (refuse 2) (cond f (refuse 3) (next (placement st k) (onward st k)))))
+    go true m f d e g = tt
+    go false true f d e g = tt
+    go false false true d e g = tt
+    go false false false d e g = record { at = refl; on = refl; known = d; rightly = e; few = g }
 
 pub step-says : (st : State) (k : ℕ) (p : Placement) (st′ : State) → O32 .step st k ≡ next p st′ → Stepped st (kindOf k) p st′
 step-says st k p st′ e = subst (Says st (kindOf k)) e (says st (kindOf k))
 
 -- ---- where a record ends
-
-pub onward-grows : (st : State) (k : ℕ) → is Unknown (kindOf k) ≡ false → st .end ≤ onward st (kindOf k) .end
-onward-grows st k e = go (is Marker (kindOf k)) refl
-  where
-    go : (t : Bool) → is Marker (kindOf k) ≡ t → st .end ≤ onward st (kindOf k) .end
-    go true f = rw f (omega arith)
-    go false f = rw f (omega (arith, up-ge (kindOf k .alignment) (st .end) (kind-sound k .aligned (rw (e, f) refl))))
 
 -- a marker's width is 0
 marker-width : (k : Kind) → is Marker k ≡ true → k .size ≡ 0 → width k ≡ 0

@@ -1,11 +1,8 @@
 -- What the stores and loads of one argument ask of its placement.
 use mathlib.Core.Path.{_≡_}
 use mathlib.Core.Logic.{_⊎_}
-use mathlib.Core.List.{List, [], _∷_, _++_}
 use mathlib.Core.Bool.{true, _||_}
 use Prim.Native.Nat.{ℕ, _+_, _%_, _≤_}
-use lib.ListN.{drop}
-use Rattle.words.specs.Words.{bytesOf}
 use Rattle.o32.specs.declared.Class.the-variants.{Signed, Unsigned, Float}
 use Rattle.o32.specs.declared.Placement.{Placement}
 use Rattle.o32.specs.Kinds.{is}

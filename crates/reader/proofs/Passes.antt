@@ -3,32 +3,28 @@
 use mathlib.Core.Path.{_≡_, refl, sym, ap, ap₂, _∙_}
 use mathlib.Core.List.{List, [], _∷_, _++_, append-assoc, append-nil}
 use mathlib.Core.Bool.{Bool, true, false, cond}
-use Prim.Native.Nat.{ℕ, suc, _+_, _-_, _≤_, _<_}
+use Prim.Native.Nat.{ℕ, suc, _+_, _≤_, _<_}
 use native.Mathlib.Omega.{arith}
 use native.Mathlib.Numerals.{add-one}
 use lib.ListN.{length, getD, set, drop, length-append, length-drop}
-use lib.Seq.{drop-drop, drop-length}
+use lib.Seq.{drop-drop}
 use Rattle.words.specs.Words.{body, proper}
 use Rattle.carried.specs.Image.{gather, put, Placed, reading}
-use Rattle.carried.specs.Convention.{taken, plan}
+use Rattle.carried.specs.Convention.{plan}
 use Rattle.carried.proofs.Readings.{length-body, fits-carriers}
 use Rattle.o32.specs.declared.Kind.{Kind}
 use Rattle.o32.specs.declared.State.{State}
 use Rattle.o32.specs.declared.Placement.{Placement}
 use Rattle.o32.specs.Kinds.{kindOf}
 use Rattle.o32.specs.Offsets.{extension}
-use Rattle.o32.specs.O32.{O32, carriers, run}
-use Rattle.records.specs.declared.Record.{Record}
-use Rattle.records.specs.declared.Record.the-variants as R
-use Rattle.records.specs.Records.{recordOf}
+use Rattle.o32.specs.O32.{O32, carriers, onward, placement, run}
+use Rattle.records.specs.Records.{Ready}
 use Rattle.placement.specs.Fitting.{Fit}
 use Rattle.block.proofs.Stores.{put-next}
-use Rattle.records.proofs.Ahead as A
-use Rattle.records.proofs.Ahead.{Ahead, ahead-starts, ahead-ends, ahead-kind, ahead-sized, ahead-fit, Behind, ahead-turn}
+use Rattle.records.proofs.Ahead.{Ahead, ahead-starts, ahead-ends, ahead-ready, ahead-sized, ahead-fit, Behind, ahead-turn}
 use Rattle.reader.specs.declared.Checked.{Checked}
 use Rattle.reader.specs.declared.Checked.the-variants as K
-use Rattle.reader.specs.Reading.{listLength, firstImproper, improperIn, readingIn, delivered, Readable}
-use Rattle.reader.proofs.Lengths.{length-next}
+use Rattle.reader.specs.Reading.{firstImproper, improperIn, readingIn, delivered, Readable}
 
 -- ---- refusal 8
 
@@ -45,26 +41,34 @@ check-ends sig img found st at w h =
     sym (rw e at (w .same))
 
 module _ (sig img : List ℕ) (found : Checked) (st : State) (at : ℕ) (w : Checking sig img found st at) (h : at < length sig)
-    (t : Record) (e : t ≡ recordOf (taken O32 false (length sig - (at + 1)) st (getD sig at 0))) where
-  pub check-refused : (r : ℕ) → t ≡ R.Refused r → ⊥
-  check-refused = A.never-refused false sig (length img) st at (w .ahead) h t e
+    (kd : Kind) (e : kd ≡ kindOf (getD sig at 0)) where
+  pub check-ready : Ready st kd
+  check-ready = ahead-ready false sig (length img) st at (w .ahead) h kd e
 
-  module _ (p : Placement) (st′ : State) (g : t ≡ R.Taken p st′) where
+  module _ (p : Placement) (g : p ≡ placement st kd) where
     pub check-fit : Fit p (length img)
-    check-fit = ahead-fit false sig (length img) st at (w .ahead) h t e p st′ g (length img) (omega arith)
+    check-fit = ahead-fit false sig (length img) st at (w .ahead) h kd e p g (length img) (omega arith)
 
-    behind-it : Behind false sig (length img) st at (w .ahead) h t e p st′ g (at + 1)
-    behind-it = ahead-turn false sig (length img) st at (w .ahead) h t e p st′ g (at + 1) (omega arith)
+    module _ (u : Bool) (a : u ≡ proper (extension (p .kind)) (p .kind .size) (gather img (carriers p))) where
+      -- what is found from here on, by this record's test
+      from-here : (L : List Placed) → w .ahead .placed ≡ O32 .placedAt (getD sig at 0) p ∷ L → found ≡ cond u (firstImproper (at + 1) L img) (K.Improper at)
+      from-here L b = w .same ∙ ap (λ (M : List Placed). firstImproper at M img) b ∙ rw (a, add-one at)
 
-    -- what is found from here on, by this record's test
-    from-here : found ≡ cond (proper (extension (p .kind)) (p .kind .size) (gather img (carriers p))) (firstImproper (at + 1) (behind-it .rest .placed) img) (K.Improper at)
-    from-here = w .same ∙ ap (λ (L : List Placed). firstImproper at L img) (behind-it .split) ∙ rw (add-one at)
+      next-from : (st′ : State) → st′ ≡ onward st kd → Behind false sig (length img) at (w .ahead .placed) p st′ (at + 1)
+      next-from st′ o = ahead-turn false sig (length img) st at (w .ahead) h kd e p g st′ o (at + 1) (omega arith)
 
-    pub check-stops : (u : Bool) → u ≡ proper (extension (p .kind)) (p .kind .size) (gather img (carriers p)) → u ≡ false → K.Improper at ≡ found
-    check-stops u a b = sym (from-here ∙ rw (← a, b))
+      decided : (t : Bool) → u ≡ t → (L : List Placed) → w .ahead .placed ≡ O32 .placedAt (getD sig at 0) p ∷ L → found ≡ cond t (firstImproper (at + 1) L img) (K.Improper at)
+      decided t b L c = from-here L c ∙ ap (λ (x : Bool). cond x (firstImproper (at + 1) L img) (K.Improper at)) b
 
-    pub check-turn : (u : Bool) → u ≡ proper (extension (p .kind)) (p .kind .size) (gather img (carriers p)) → u ≡ true → Checking sig img found st′ (at + 1)
-    check-turn u a b = record { ahead = behind-it .rest; same = from-here ∙ rw (← a, b) }
+      pub check-stops : u ≡ false → K.Improper at ≡ found
+      check-stops b =
+          let v : Behind false sig (length img) at (w .ahead .placed) p (onward st kd) (at + 1) = next-from (onward st kd) refl in
+          sym (decided false b (v .rest .placed) (v .split))
+
+      pub check-turn : u ≡ true → (st′ : State) → st′ ≡ onward st kd → Checking sig img found st′ (at + 1)
+      check-turn b st′ o =
+          let v : Behind false sig (length img) at (w .ahead .placed) p st′ (at + 1) = next-from st′ o in
+          record { ahead = v .rest; same = decided true b (v .rest .placed) (v .split) }
 
 -- ---- the list
 
@@ -86,7 +90,6 @@ pub record Copying (sig img out₀ final : List ℕ) (st : State) (at n : ℕ) (
   pub long : length first ≡ n
   pub buffer : out ≡ first ++ drop n out₀
   pub whole : first ++ reading (ahead .placed) img ≡ final
-  pub sum : n + listLength (drop at sig) ≡ listLength sig
 
 pub copy-starts : (sig img out : List ℕ) (st : State) → st ≡ O32 .start → Readable sig img → Copying sig img out (readingIn (plan O32 false sig) img) st 0 0 out
 copy-starts sig img out st e f = rw (f .planned) (record {
@@ -95,53 +98,65 @@ copy-starts sig img out st e f = rw (f .planned) (record {
   long = refl;
   buffer = refl;
   whole = refl;
-  sum = omega arith;
 })
 
 pub copy-ends : (sig img out₀ final : List ℕ) (st : State) (at n : ℕ) (out : List ℕ) → Copying sig img out₀ final st at n out → length sig ≤ at
-    → out ≡ final ++ drop (listLength sig) out₀
+    → out ≡ final ++ drop (length final) out₀
 copy-ends sig img out₀ final st at n out w h =
     let p : w .ahead .placed ≡ [] = ahead-ends false sig (length img) st at (w .ahead) h in
-    let i : at ≡ length sig = omega (arith, w .ahead .inside) in
-    let z : listLength (drop at sig) ≡ 0 = rw (i, drop-length) in
-    let s : n ≡ listLength sig = omega (arith, w .sum) in
     let f : w .first ≡ final = sym (append-nil (w .first)) ∙ ap (λ (L : List Placed). w .first ++ reading L img) (sym p) ∙ w .whole in
-    w .buffer ∙ ap₂ (λ (x : List ℕ) (k : ℕ). x ++ drop k out₀) f s
+    w .buffer ∙ ap₂ (λ (x : List ℕ) (k : ℕ). x ++ drop k out₀) f (sym (w .long) ∙ ap length f)
 
 module _ (sig img out₀ final : List ℕ) (st : State) (at n : ℕ) (out : List ℕ) (w : Copying sig img out₀ final st at n out) (h : at < length sig)
-    (t : Record) (e : t ≡ recordOf (taken O32 false (length sig - (at + 1)) st (getD sig at 0))) (room : listLength sig ≤ length out₀) where
-  pub copy-refused : (r : ℕ) → t ≡ R.Refused r → ⊥
-  copy-refused = A.never-refused false sig (length img) st at (w .ahead) h t e
+    (kd : Kind) (e : kd ≡ kindOf (getD sig at 0)) where
+  pub copy-ready : Ready st kd
+  copy-ready = ahead-ready false sig (length img) st at (w .ahead) h kd e
 
-  pub copy-long : n + 1 ≤ length out₀
-  copy-long = omega (arith, w .sum, length-next sig at h)
-
-  module _ (p : Placement) (st′ : State) (g : t ≡ R.Taken p st′) where
-    size-is : p .kind .size ≡ kindOf (getD sig at 0) .size
-    size-is = ap (λ (x : Kind). x .size) (ahead-kind false sig (length img) st at (w .ahead) h t e p st′ g)
-
+  module _ (p : Placement) (g : p ≡ placement st kd) where
     pub copy-fit : Fit p (length img)
-    copy-fit = ahead-fit false sig (length img) st at (w .ahead) h t e p st′ g (length img) (omega arith)
+    copy-fit = ahead-fit false sig (length img) st at (w .ahead) h kd e p g (length img) (omega arith)
 
-    pub copy-room : n + 1 + p .kind .size ≤ length out₀
-    copy-room = omega (arith, w .sum, length-next sig at h, size-is)
+    size-is : p .kind .size ≡ kd .size
+    size-is = ap (λ (x : Placement). x .kind .size) g
 
-    pub copy-turn : (out′ : List ℕ) → out′ ≡ put (set out n (getD sig at 0)) (run (n + 1) (p .kind .size)) (body (p .kind .size) (gather img (carriers p)))
-        → Copying sig img out₀ final st′ (at + 1) (n + 1 + p .kind .size) out′
-    copy-turn out′ i =
-        let k : ℕ = getD sig at 0 in
-        let s : Placed = O32 .placedAt k p in
-        let b : List ℕ = body (p .kind .size) (gather img (carriers p)) in
-        let v : Behind false sig (length img) st at (w .ahead) h t e p st′ g (at + 1) = ahead-turn false sig (length img) st at (w .ahead) h t e p st′ g (at + 1) (omega arith) in
-        let lb : length b ≡ p .kind .size = length-body s img (fits-carriers s (ahead-sized false sig (length img) st at (w .ahead) h t e p st′ g)) in
-        record {
-          ahead = v .rest;
-          first = w .first ++ (k ∷ b);
-          long = length-append (w .first) (k ∷ b) ∙ omega (arith, w .long);
-          buffer = stored-record (w .first) out₀ out out′ b n k (p .kind .size) (w .long) (w .buffer) lb copy-room i;
-          whole = append-assoc (w .first) (k ∷ b) (reading (v .rest .placed) img) ∙ ap (λ (L : List Placed). w .first ++ reading L img) (sym (v .split)) ∙ w .whole;
-          sum = omega (arith, w .sum, length-next sig at h, size-is);
-        }
+    abbrev body-here : List ℕ
+    body-here = body (p .kind .size) (gather img (carriers p))
+
+    body-long : length body-here ≡ p .kind .size
+    body-long = let s : Placed = O32 .placedAt (getD sig at 0) p in length-body s img (fits-carriers s (ahead-sized false sig (length img) st at (w .ahead) h kd e p g))
+
+    -- the whole is what is there, this record, and the rest
+    split-here : (L : List Placed) → w .ahead .placed ≡ O32 .placedAt (getD sig at 0) p ∷ L → (w .first ++ (getD sig at 0 ∷ body-here)) ++ reading L img ≡ final
+    split-here L b = append-assoc (w .first) (getD sig at 0 ∷ body-here) (reading L img) ∙ ap (λ (M : List Placed). w .first ++ reading M img) (sym b) ∙ w .whole
+
+    next-copy : (st′ : State) → st′ ≡ onward st kd → Behind false sig (length img) at (w .ahead .placed) p st′ (at + 1)
+    next-copy st′ o = ahead-turn false sig (length img) st at (w .ahead) h kd e p g st′ o (at + 1) (omega arith)
+
+    module _ (room : length final ≤ length out₀) where
+      pub copy-room : n + 1 + p .kind .size ≤ length out₀
+      copy-room =
+          let v : Behind false sig (length img) at (w .ahead .placed) p (onward st kd) (at + 1) = next-copy (onward st kd) refl in
+          let l : length ((w .first ++ (getD sig at 0 ∷ body-here)) ++ reading (v .rest .placed) img) ≡ length final = ap length (split-here (v .rest .placed) (v .split)) in
+          omega (arith, l, length-append (w .first ++ (getD sig at 0 ∷ body-here)) (reading (v .rest .placed) img), length-append (w .first) (getD sig at 0 ∷ body-here), w .long, body-long)
+
+      pub copy-within : n + 1 + kd .size ≤ length out₀
+      copy-within = omega (arith, copy-room, size-is)
+
+      pub copy-turn : (st′ : State) → st′ ≡ onward st kd → (out′ : List ℕ) → out′ ≡ put (set out n (getD sig at 0)) (run (n + 1) (p .kind .size)) (body (p .kind .size) (gather img (carriers p)))
+          → Copying sig img out₀ final st′ (at + 1) (n + 1 + kd .size) out′
+      copy-turn st′ o out′ i =
+          let k : ℕ = getD sig at 0 in
+          let v : Behind false sig (length img) at (w .ahead .placed) p st′ (at + 1) = next-copy st′ o in
+          let z : n + 1 + p .kind .size ≡ n + 1 + kd .size = ap (λ (x : ℕ). n + 1 + x) size-is in
+          record {
+            ahead = v .rest;
+            first = w .first ++ (k ∷ body-here);
+            long = length-append (w .first) (k ∷ body-here) ∙ omega (arith, w .long, body-long, z);
+            buffer =
+                stored-record (w .first) out₀ out out′ body-here n k (p .kind .size) (w .long) (w .buffer) body-long copy-room i
+                ∙ ap (λ (x : ℕ). (w .first ++ (k ∷ body-here)) ++ drop x out₀) z;
+            whole = split-here (v .rest .placed) (v .split);
+          }
 
 -- ---- both: q is what the check found, q′ what it is to find
 

@@ -1,29 +1,16 @@
 -- What the passes of the reader find.
 use mathlib.Core.Path.{_≡_}
 use mathlib.Core.List.{List, [], _∷_}
-use mathlib.Core.Bool.{Bool, false, cond}
+use mathlib.Core.Bool.{false, cond}
 use Prim.Native.Nat.{ℕ, suc, _+_}
 use lib.ListN.{length}
-use lib.Dec.{ltb}
 use Rattle.words.specs.Words.{proper}
 use Rattle.carried.specs.Image.{gather, Placed, reading}
 use Rattle.carried.specs.Convention.{Plan, bad, good, plan}
 use Rattle.o32.specs.declared.State.{State}
-use Rattle.o32.specs.Kinds.{kindOf}
 use Rattle.o32.specs.O32.{O32, area}
-use Rattle.reader.specs.declared.Room.{Room}
-use Rattle.reader.specs.declared.Room.the-variants as R
 use Rattle.reader.specs.declared.Checked.{Checked}
 use Rattle.reader.specs.declared.Checked.the-variants as K
-
--- The length of a list with this signature: a kind byte and a body for each record.
-abbrev pub listLength : List ℕ → ℕ
-listLength [] = 0
-listLength (k ∷ ks) = suc (kindOf k .size + listLength ks)
-
--- Whether it fits a buffer of so many bytes.
-abbrev pub roomFor : ℕ → ℕ → Room
-roomFor room n = cond (ltb room n) R.Short (R.Enough n)
 
 -- The first record whose bytes are no proper promotion, counted from here.
 abbrev pub firstImproper : ℕ → List Placed → List ℕ → Checked

@@ -1,4 +1,4 @@
-// The passes of the reader: the list's length, refusal 8, and the list.
+// The passes of the reader: refusal 8, and the list.
 ghost use mathlib.Core.List.{_++_};
 ghost use mathlib.Core.Path.{_≡_};
 ghost use Prim.Native.Nat.{_≤_};
@@ -6,37 +6,12 @@ ghost use lib.ListN.{drop, length};
 ghost use mathlib.Core.Bool.{false};
 ghost use Rattle.carried.specs.Convention.{plan};
 ghost use Rattle.o32.specs.O32.{O32};
-ghost use Rattle.reader.specs.Reading.{Readable, delivered, improperIn, listLength, readingIn, roomFor};
-use records::Record;
-
-// Whether a list fits a buffer, and its length.
-pub enum Room {
-    Short,
-    Enough(usize),
-}
+ghost use Rattle.reader.specs.Reading.{Readable, delivered, improperIn, readingIn};
 
 // Whether all words are proper promotions, or the place of the first kind whose word is not.
 pub enum Checked {
     Proper,
     Improper(usize),
-}
-
-// The length of a list with this signature, where a buffer of `room` bytes can hold it.
-pub fn list_length(signature: &[u8], room: usize) -> Room
-    ensures { λ r. ⌜ r ≡ roomFor room (listLength (now (signature .entry))) ⌝ }
-{
-    let mut n = 0;
-    let mut at = 0;
-    while at < signature.len() {
-        let kind = kinds::kind_of(signature[at]);
-        let record = kind.size + 1;
-        if room - n < record {
-            return Room::Short;
-        }
-        n += record;
-        at += 1;
-    }
-    Room::Enough(n)
 }
 
 // Refusal 8: the first kind whose word in the image is no proper promotion.
@@ -47,16 +22,13 @@ fn check(signature: &[u8], image: &[u8]) -> Checked
     let mut st = records::start();
     let mut at = 0;
     while at < signature.len() {
-        let left = signature.len() - (at + 1);
-        let answer = records::take(st, signature[at], false, left);
-        let Record::Taken { placement, next } = answer else {
-            return Checked::Proper;
-        };
-        if !fetch::is_proper(image, placement) {
+        let kind = kinds::kind_of(signature[at]);
+        let place = records::place(st, kind);
+        if !fetch::is_proper(image, place) {
             return Checked::Improper(at);
         }
         at += 1;
-        st = next;
+        st = records::state_behind(st, kind);
     }
     Checked::Proper
 }
@@ -64,34 +36,30 @@ fn check(signature: &[u8], image: &[u8]) -> Checked
 // The kinds and the bodies that the image carries for them, into a buffer that has room.
 fn copy_list(signature: &[u8], image: &[u8], out: &mut [u8])
     requires { ⌜ Readable (now signature) (now image) ⌝ }
-    requires { ⌜ listLength (now signature) ≤ length (now out) ⌝ }
-    ensures { λ _. ⌜ now (out .exit) ≡ readingIn (plan O32 false (now (signature .entry))) (now (image .entry)) ++ drop (listLength (now (signature .entry))) (now (out .entry)) ⌝ }
+    requires { ⌜ length (readingIn (plan O32 false (now signature)) (now image)) ≤ length (now out) ⌝ }
+    ensures { λ _. ⌜ now (out .exit) ≡ readingIn (plan O32 false (now (signature .entry))) (now (image .entry)) ++ drop (length (readingIn (plan O32 false (now (signature .entry))) (now (image .entry)))) (now (out .entry)) ⌝ }
 {
     let mut st = records::start();
     let mut at = 0;
     let mut n = 0;
     while at < signature.len() {
-        let left = signature.len() - (at + 1);
-        let answer = records::take(st, signature[at], false, left);
-        let Record::Taken { placement, next } = answer else {
-            return;
-        };
+        let kind = kinds::kind_of(signature[at]);
+        let place = records::place(st, kind);
         out[n] = signature[at];
         let body = n + 1;
-        fetch::get_body(image, placement, out, body);
-        let kind = placement.kind;
+        fetch::get_body(image, place, out, body);
         n = body + kind.size;
         at += 1;
-        st = next;
+        st = records::state_behind(st, kind);
     }
 }
 
 // Refusal 8, or the list into a buffer that has room: no byte is stored before 8 is decided.
 pub fn deliver(signature: &[u8], image: &[u8], out: &mut [u8]) -> Checked
     requires { ⌜ Readable (now signature) (now image) ⌝ }
-    requires { ⌜ listLength (now signature) ≤ length (now out) ⌝ }
+    requires { ⌜ length (readingIn (plan O32 false (now signature)) (now image)) ≤ length (now out) ⌝ }
     ensures { λ r. ⌜ r ≡ improperIn (plan O32 false (now (signature .entry))) (now (image .entry)) ⌝ }
-    ensures { λ _. ⌜ now (out .exit) ≡ delivered (improperIn (plan O32 false (now (signature .entry))) (now (image .entry))) (readingIn (plan O32 false (now (signature .entry))) (now (image .entry)) ++ drop (listLength (now (signature .entry))) (now (out .entry))) (now (out .entry)) ⌝ }
+    ensures { λ _. ⌜ now (out .exit) ≡ delivered (improperIn (plan O32 false (now (signature .entry))) (now (image .entry))) (readingIn (plan O32 false (now (signature .entry))) (now (image .entry)) ++ drop (length (readingIn (plan O32 false (now (signature .entry))) (now (image .entry)))) (now (out .entry))) (now (out .entry)) ⌝ }
 {
     let checked = check(signature, image);
     let Checked::Proper = checked else {

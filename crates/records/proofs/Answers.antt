@@ -1,4 +1,4 @@
--- What each return of the record step and of the functions under it answers, by the tests that led there.
+-- What each return of the functions on one record answers, by the tests that led there.
 -- Assumes nothing.
 use mathlib.Core.Path.{_≡_, refl, sym, ap, _∙_}
 use mathlib.Core.Logic.{inl, inr}
@@ -16,12 +16,11 @@ use Rattle.records.specs.declared.Record.{Record}
 use Rattle.records.specs.declared.Record.the-variants as R
 use Rattle.o32.specs.Kinds.{kindOf, is}
 use Rattle.words.specs.Words.{up}
-use Rattle.o32.specs.Offsets.{offset, ending}
-use Rattle.o32.specs.O32.{O32, register, misplaced, full, onward, stepped}
-use Rattle.records.specs.Records.{Alignment, recordOf}
+use Rattle.o32.specs.Offsets.{ending}
+use Rattle.o32.specs.O32.{O32, register, misplaced, full, onward, placement, stepped}
+use Rattle.records.specs.Records.{Alignment, recordOf, Ready}
 use Rattle.placement.proofs.KindFacts.{kind-sound}
 use Rattle.kinds.proofs.Classes.{class-is}
-use Rattle.placement.proofs.Steps.{onward-grows}
 use Rattle.placement.proofs.Laws.{up-le}
 
 -- ---- alignment
@@ -129,26 +128,16 @@ module _ (st : State) (k : ℕ) (bodies : Bool) (left : ℕ) (kd : Kind) (e : kd
           pub refused-4 : left < b → Given (R.Refused 4)
           refused-4 h = answer (R.Refused 4) (rw (sym known ∙ h₁, sym placed ∙ h₂, sym roomy ∙ h₃, lt-ltb left (behind bodies (kd .size)) (rw needed at h)))
 
-          module _ (h₄ : b ≤ left) where
-            limit : (r : Record) → r ≡ recordOf (cond (leb (onward st kd .end) 1024) (next (record { kind = kd; offset = offset kd (st .end); register = register st kd }) (onward st kd)) (refuse 5)) → Given r
+          module _ (h₄ : b ≤ left) (n : State) (on : n ≡ onward st kd) where
+            limit : (r : Record) → r ≡ recordOf (cond (leb (onward st kd .end) 1024) (next (placement st kd) (onward st kd)) (refuse 5)) → Given r
             limit r h = answer r (h ∙ sym (rw (sym known ∙ h₁, sym placed ∙ h₂, sym roomy ∙ h₃, le-ltb left (behind bodies (kd .size)) (rw needed at h₄))))
 
-            pub refused-5 : 1024 < onward st kd .end → Given (R.Refused 5)
-            refused-5 h = limit (R.Refused 5) (rw (lt-leb (onward st kd .end) 1024 h))
+            pub refused-5 : 1024 < n .end → Given (R.Refused 5)
+            refused-5 h = limit (R.Refused 5) (rw (lt-leb (onward st kd .end) 1024 (rw on at h)))
 
-            pub refused-5-before : 1024 < st .end → Given (R.Refused 5)
-            refused-5-before h = refused-5 (omega (arith, rw (← e) at (onward-grows st k (rw (← e) (sym known ∙ h₁)))))
+            pub accepted : n .end ≤ 1024 → Given (R.Taken kd n)
+            accepted h = limit _ (rw on (rw (le-leb (onward st kd .end) 1024 (rw on at h))))
 
-            pub refused-5-behind : (n : State) → n ≡ onward st kd → 1024 < n .end → Given (R.Refused 5)
-            refused-5-behind n g h = refused-5 (rw g at h)
-
-            pub accepted : (n : State) (o g : ℕ) → n ≡ onward st kd → n .end ≤ 1024 → o ≡ up (kd .alignment) (st .end) → g ≡ register st kd
-                → Given (R.Taken (record { kind = kd; offset = o; register = g }) n)
-            accepted n o g x h y z = limit _ (rw (x, y, z) (rw (le-leb (onward st kd .end) 1024 (rw x at h))))
-
--- what the functions under it require
-pub kind-aligned : (k : ℕ) (kd : Kind) → kd ≡ kindOf k → Alignment (kd .alignment)
-kind-aligned k kd e = rw e (kind-sound k .alignments)
-
-pub kind-small : (k : ℕ) (kd : Kind) → kd ≡ kindOf k → kd .size ≤ 512
-kind-small k kd e = rw e (kind-sound k .small)
+-- a kind of the table can be placed behind arguments in their limits
+pub ready : (st : State) (k : ℕ) (kd : Kind) → kd ≡ kindOf k → full st kd ≡ false → st .end ≤ 1024 → Ready st kd
+ready st k kd e f h = record { aligned = rw e (kind-sound k .alignments); small = rw e (kind-sound k .small); fits = h; few = f }

@@ -1,3 +1,3 @@
 pub mod Answers
-pub mod Answered
+pub mod Taken
 pub mod Ahead

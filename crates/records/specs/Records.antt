@@ -1,10 +1,15 @@
--- What the contracts of the code cite beside the definitions: its enums, case by case.
+-- What the contracts of the code on one record cite beside the definitions: its enum, case by case, and what it asks for.
 use mathlib.Core.Logic.{_⊎_}
 use mathlib.Core.Path.{_≡_}
-use Prim.Native.Nat.{ℕ}
-use Rattle.carried.specs.Convention.{Step, refuse, next, Plan, bad, good}
+use mathlib.Core.List.{List, [], _∷_}
+use mathlib.Core.Bool.{false}
+use Prim.Native.Nat.{ℕ, suc, _+_, _≤_}
+use Rattle.carried.specs.Image.{Placed}
+use Rattle.carried.specs.Convention.{Step, refuse, next}
+use Rattle.o32.specs.declared.Kind.{Kind}
 use Rattle.o32.specs.declared.State.{State}
 use Rattle.o32.specs.declared.Placement.{Placement}
+use Rattle.o32.specs.O32.{full}
 use Rattle.records.specs.declared.Record.{Record}
 use Rattle.records.specs.declared.Record.the-variants as R
 
@@ -12,7 +17,19 @@ use Rattle.records.specs.declared.Record.the-variants as R
 abbrev pub Alignment : ℕ → Type 0
 Alignment a = (a ≡ 0) ⊎ (a ≡ 4) ⊎ (a ≡ 8)
 
--- The answer of one record.
+-- The answer of one record: its refusal, or its kind and the state behind it.
 abbrev pub recordOf : Step Placement State → Record
 recordOf (refuse r) = R.Refused r
-recordOf (next p st) = R.Taken p st
+recordOf (next p st) = R.Taken (p .kind) st
+
+-- A record that can be placed: its kind is of the table, and the arguments before it are in their limits.
+pub record Ready (st : State) (k : Kind) : Type 0 where
+  pub aligned : Alignment (k .alignment)
+  pub small : k .size ≤ 512
+  pub fits : st .end ≤ 1024
+  pub few : full st k ≡ false
+
+-- How many bytes these records are in a list: a kind byte and a body for each.
+abbrev pub listLength : List Placed → ℕ
+listLength [] = 0
+listLength (s ∷ L) = suc (s .size + listLength L)

@@ -1,24 +1,24 @@
-// The record step: what one record of a list or a signature answers, and where its argument goes.
-ghost use mathlib.Core.Bool.{_||_, cond, false, true};
+// One record of a list or a signature: its refusals, where its argument goes, and the state behind it.
+ghost use mathlib.Core.Bool.{_||_, cond};
 ghost use mathlib.Core.Path.{_≡_};
 ghost use Prim.Native.Nat.{_≤_};
 ghost use lib.Dec.{eqb};
 ghost use Rattle.carried.specs.Convention.{behind, taken};
 ghost use Rattle.o32.specs.declared.Class.the-variants.{Float, Pointer};
 ghost use Rattle.o32.specs.Kinds.{is};
-ghost use Rattle.o32.specs.O32.{O32, full, misplaced, onward, register};
+ghost use Rattle.o32.specs.O32.{O32, full, misplaced, onward, placement, register};
 ghost use Rattle.words.specs.Words.{up};
 ghost use Rattle.o32.specs.Offsets.{ending};
-ghost use Rattle.records.specs.Records.{Alignment, recordOf};
+ghost use Rattle.records.specs.Records.{Alignment, Ready, recordOf};
 use o32::Class;
 use o32::Kind;
 use o32::Placement;
 use o32::State;
 
-// What one record answers: a refusal's number, or its placement and the state behind it.
+// What one record answers: a refusal's number, or its kind and the state behind it.
 pub enum Record {
     Refused(u32),
-    Taken { placement: Placement, next: State },
+    Taken { kind: Kind, next: State },
 }
 
 // The next multiple of an alignment of 4 or 8 from n on; 0 where there is no alignment.
@@ -112,32 +112,6 @@ fn starts_floating(st: State, kind: Kind) -> bool
     st.floating
 }
 
-// The state behind a record.
-fn state_behind(st: State, kind: Kind) -> State
-    requires { ⌜ Alignment (kind .alignment) ⌝ }
-    requires { ⌜ kind .size ≤ 512 ⌝ }
-    requires { ⌜ st .end ≤ 1024 ⌝ }
-    requires { ⌜ full st kind ≡ false ⌝ }
-    ensures { λ r. ⌜ r ≡ onward st kind ⌝ }
-{
-    if kinds::is_class(Class::Marker, kind) {
-        return State {
-            end: st.end,
-            count: st.count,
-            pointer: st.pointer,
-            floating: st.floating,
-            marked: true,
-        };
-    }
-    State {
-        end: ending_of(kind, st.end),
-        count: st.count + 1,
-        pointer: has_pointer(st, kind),
-        floating: starts_floating(st, kind),
-        marked: st.marked,
-    }
-}
-
 // The state before the first record.
 pub fn start() -> State
     ensures { λ r. ⌜ r ≡ O32 .start ⌝ }
@@ -158,9 +132,45 @@ pub fn body_behind(bodies: bool, size: usize) -> usize
     if bodies { size } else { 0 }
 }
 
+// The placement of a record.
+pub fn place(st: State, kind: Kind) -> Placement
+    requires { ⌜ Ready st kind ⌝ }
+    ensures { λ r. ⌜ r ≡ placement st kind ⌝ }
+{
+    Placement {
+        kind,
+        offset: align_up(kind.alignment, st.end),
+        register: register_of(st, kind),
+    }
+}
+
+// The state behind a record.
+pub fn state_behind(st: State, kind: Kind) -> State
+    requires { ⌜ Ready st kind ⌝ }
+    ensures { λ r. ⌜ r ≡ onward st kind ⌝ }
+{
+    if kinds::is_class(Class::Marker, kind) {
+        return State {
+            end: st.end,
+            count: st.count,
+            pointer: st.pointer,
+            floating: st.floating,
+            marked: true,
+        };
+    }
+    State {
+        end: ending_of(kind, st.end),
+        count: st.count + 1,
+        pointer: has_pointer(st, kind),
+        floating: starts_floating(st, kind),
+        marked: st.marked,
+    }
+}
+
 // One record of a list (bodies) or of a signature, with so many bytes left behind its kind byte: refusals 1 to 5 in their
-// order, or its placement and the state behind it.
+// order, or its kind and the state behind it.
 pub fn take(st: State, byte: u8, bodies: bool, left: usize) -> Record
+    requires { ⌜ st .end ≤ 1024 ⌝ }
     ensures { λ r. ⌜ r ≡ recordOf (taken O32 bodies left st byte) ⌝ }
 {
     let kind = kinds::kind_of(byte);
@@ -176,19 +186,9 @@ pub fn take(st: State, byte: u8, bodies: bool, left: usize) -> Record
     if left < body_behind(bodies, kind.size) {
         return Record::Refused(4);
     }
-    if 1024 < st.end {
-        return Record::Refused(5);
-    }
     let next = state_behind(st, kind);
     if 1024 < next.end {
         return Record::Refused(5);
     }
-    Record::Taken {
-        placement: Placement {
-            kind,
-            offset: align_up(kind.alignment, st.end),
-            register: register_of(st, kind),
-        },
-        next,
-    }
+    Record::Taken { kind, next }
 }

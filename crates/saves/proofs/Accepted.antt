@@ -69,6 +69,10 @@ module _ {r : Request} (a : Accepted r) where
   pub ones-general : ones (r .general) ≡ below (r .general) 32
   ones-general = ones-all (r .general) 32 (omega (arith, a .savable))
 
+  -- no general register below `$16`
+  pub low-general : r .general % 65536 ≡ 0
+  low-general = omega (arith, a .savable)
+
   -- ten general registers at most
   pub few-general : below (r .general) 32 ≤ 10
   few-general =

@@ -32,6 +32,15 @@ module _ (P : Save → Type 0) (f : ℕ → List Save) (m : ℕ) where
       by (yes q) b earlier =
           subst (λ (i : ℕ). All P (f i)) (sym q) (subst (λ (x : Bool). All P (cond x (f k) [])) (ap (named m) (sym q) ∙ e) b)
 
+-- where none is named, none is collected
+pub collect-none : (f : ℕ → List Save) (m k : ℕ) → below m k ≡ 0 → collect f m k ≡ []
+unfolding collect below
+collect-none f m zero e = refl
+collect-none f m (suc k) e =
+    let b : bit m k ≡ 0 = omega arith in
+    let p : below m k ≡ 0 = omega arith in
+    simp (collect-none f m k p, b)
+
 -- s bytes for each register below k
 pub collect-span : (f : ℕ → List Save) (s m start k : ℕ) → ((j : ℕ) → Span (start + s * below m j) (f j) (start + s * below m j + s))
     → Span start (collect f m k) (start + s * below m k)

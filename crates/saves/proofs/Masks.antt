@@ -40,6 +40,10 @@ unfolding below
 below-le m zero = omega arith
 below-le m (suc k) = omega (arith, below-le m k, bit-lt m k)
 
+-- a mask with no bit below k names none there
+pub below-none : (m k : ℕ) → m % 2 ^ k ≡ 0 → below m k ≡ 0
+below-none m k e = sym (ones-below m k) ∙ ap ones e ∙ ones-bit 0 (omega arith)
+
 -- all ones of a mask, where it has no bit from k on
 pub ones-all : (m k : ℕ) → m % 2 ^ k ≡ m → ones m ≡ below m k
 ones-all m k e = ap ones (sym e) ∙ ones-below m k

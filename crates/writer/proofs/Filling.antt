@@ -3,26 +3,30 @@
 use mathlib.Core.Path.{_≡_, refl, sym, ap, _∙_}
 use mathlib.Core.List.{List, [], _∷_, _++_}
 use mathlib.Core.Bool.{true}
-use Prim.Native.Nat.{ℕ, _+_, _-_, _^_, _≤_, _<_}
+use Prim.Native.Nat.{ℕ, _+_, _-_, _≤_, _<_}
 use native.Mathlib.Omega.{arith}
 use native.Mathlib.Numerals.{add-one}
 use lib.ListN.{length, getD, take, drop, length-drop}
 use lib.Seq.{drop-cons, drop-drop, length-take-le}
 use Rattle.words.specs.Words.{promote}
 use Rattle.carried.specs.Image.{put, Placed, carried, promotedBytes}
-use Rattle.carried.specs.Convention.{taken, plan}
+use Rattle.carried.specs.Convention.{plan}
 use Rattle.carried.proofs.Places.{put-append}
+use Rattle.o32.specs.declared.Kind.{Kind}
 use Rattle.o32.specs.declared.State.{State}
 use Rattle.o32.specs.declared.Placement.{Placement}
+use Rattle.o32.specs.Kinds.{kindOf}
 use Rattle.o32.specs.Offsets.{extension}
-use Rattle.o32.specs.O32.{O32, carriers}
-use Rattle.records.specs.declared.Record.{Record}
-use Rattle.records.specs.declared.Record.the-variants as R
-use Rattle.records.specs.Records.{recordOf}
+use Rattle.o32.specs.O32.{O32, carriers, onward, placement}
+use Rattle.placement.proofs.Bounds.{plan-bound}
+use Rattle.records.specs.Records.{Ready}
 use Rattle.placement.specs.Fitting.{Fit}
-use Rattle.records.proofs.Ahead as A
-use Rattle.records.proofs.Ahead.{Ahead, ahead-starts, ahead-ends, ahead-within, ahead-sized, ahead-fit, Behind, ahead-turn}
+use Rattle.records.proofs.Ahead.{Ahead, ahead-starts, ahead-ends, ahead-ready, ahead-within, ahead-sized, ahead-fit, Behind, ahead-turn}
 use Rattle.writer.specs.Filling.{Fillable, filled}
+
+-- no accepted list is longer
+pub fill-long : (list : List ℕ) (n : ℕ) → Fillable list n → length list ≤ 1057
+fill-long list n f = plan-bound true list (f .placed) (f .last) (f .planned) .long
 
 pub record Filling (list : List ℕ) (n : ℕ) (final : List ℕ) (st : State) (at : ℕ) (img : List ℕ) : Type 0 where
   pub ahead : Ahead true list n st at
@@ -37,40 +41,41 @@ fill-ends list n final st at img w h =
     rw e at (w .rest)
 
 module _ (list : List ℕ) (n : ℕ) (final : List ℕ) (st : State) (at : ℕ) (img : List ℕ) (w : Filling list n final st at img) (h : at < length list)
-    (t : Record) (e : t ≡ recordOf (taken O32 true (length list - (at + 1)) st (getD list at 0))) where
-  pub never-refused : (r : ℕ) → t ≡ R.Refused r → ⊥
-  never-refused = A.never-refused true list n st at (w .ahead) h t e
+    (kd : Kind) (e : kd ≡ kindOf (getD list at 0)) where
+  pub fill-ready : Ready st kd
+  fill-ready = ahead-ready true list n st at (w .ahead) h kd e
 
-  module _ (p : Placement) (st′ : State) (g : t ≡ R.Taken p st′) where
-    pub fill-within : at + 1 + p .kind .size ≤ length list
-    fill-within = ahead-within true list n st at (w .ahead) h t e p st′ g
+  fill-within : at + 1 + kd .size ≤ length list
+  fill-within = ahead-within true list n st at (w .ahead) h kd e
 
-    pub fill-fits : length list < 2 ^ 64 → at + 1 + p .kind .size < 2 ^ 64
-    fill-fits l = omega (arith, fill-within)
+  pub fill-less : length list - (at + 1 + kd .size) < length list - at
+  fill-less = omega (arith, fill-within)
 
-    pub fill-less : length list - (at + 1 + p .kind .size) < length list - at
-    fill-less = omega (arith, fill-within)
-
+  module _ (p : Placement) (g : p ≡ placement st kd) where
     pub fill-fit : (m : ℕ) → n ≤ m → Fit p m
-    fill-fit = ahead-fit true list n st at (w .ahead) h t e p st′ g
+    fill-fit = ahead-fit true list n st at (w .ahead) h kd e p g
 
-    pub fill-turn : (img′ : List ℕ) → img′ ≡ put img (carriers p) (promote (extension (p .kind)) (take (p .kind .size) (drop (at + 1) list)))
-        → Filling list n final st′ (at + 1 + p .kind .size) img′
-    fill-turn img′ i =
+    pub fill-body : at + 1 + p .kind .size ≤ length list
+    fill-body = rw g fill-within
+
+    pub fill-turn : (st′ : State) (img′ : List ℕ) → st′ ≡ onward st kd → img′ ≡ put img (carriers p) (promote (extension (p .kind)) (take (p .kind .size) (drop (at + 1) list)))
+        → Filling list n final st′ (at + 1 + kd .size) img′
+    fill-turn st′ img′ o i =
         let k : ℕ = getD list at 0 in
-        let v : Behind true list n st at (w .ahead) h t e p st′ g (at + 1 + p .kind .size) = ahead-turn true list n st at (w .ahead) h t e p st′ g (at + 1 + p .kind .size) refl in
+        let z : p .kind .size ≡ kd .size = ap (λ (x : Placement). x .kind .size) g in
+        let v : Behind true list n at (w .ahead .placed) p st′ (at + 1 + kd .size) = ahead-turn true list n st at (w .ahead) h kd e p g st′ o (at + 1 + kd .size) refl in
         let M : List Placed = v .rest .placed in
         let b : List ℕ = take (p .kind .size) (drop (at + 1) list) in
         let vs : List ℕ = promote (extension (p .kind)) b in
-        let more : List ℕ = promotedBytes M (drop (at + 1 + p .kind .size) list) in
-        let long : length b ≡ p .kind .size = length-take-le (p .kind .size) (drop (at + 1) list) (rw length-drop (omega (arith, fill-within))) in
+        let more : List ℕ = promotedBytes M (drop (at + 1 + kd .size) list) in
+        let long : length b ≡ p .kind .size = length-take-le (p .kind .size) (drop (at + 1) list) (rw length-drop (omega (arith, fill-body))) in
         let d : promotedBytes (O32 .placedAt k p ∷ M) (drop at list) ≡ vs ++ more =
-        ap (promotedBytes (O32 .placedAt k p ∷ M)) (drop-cons list at 0 h) ∙ rw (drop-drop, ← (add-one at)) in
+        ap (promotedBytes (O32 .placedAt k p ∷ M)) (drop-cons list at 0 h) ∙ (rw (drop-drop, ← (add-one at))) ∙ ap (λ (x : ℕ). vs ++ promotedBytes M (drop (at + 1 + x) list)) z in
         record {
           ahead = v .rest;
           rest =
               ap (λ (x : List ℕ). put x (carried M) more) i
-              ∙ sym (put-append img (carriers p) (carried M) vs more (ahead-sized true list n st at (w .ahead) h t e p st′ g b long))
+              ∙ sym (put-append img (carriers p) (carried M) vs more (ahead-sized true list n st at (w .ahead) h kd e p g b long))
               ∙ ap (put img (carriers p ++ carried M)) (sym d)
               ∙ (rw (v .split) at (w .rest));
         }

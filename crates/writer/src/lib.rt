@@ -8,7 +8,6 @@ ghost use Rattle.carried.specs.Convention.{plan};
 ghost use Rattle.o32.specs.O32.{O32};
 ghost use Rattle.block.specs.Block.{whole};
 ghost use Rattle.writer.specs.Filling.{Fillable, filled, imageIn};
-use records::Record;
 
 // Zero in the area of an image of n bytes.
 fn clear(out: &mut [u8], n: usize)
@@ -32,17 +31,13 @@ fn fill(list: &[u8], out: &mut [u8], n: usize) -> [u32; 8]
     let mut st = records::start();
     let mut at = 0;
     while at < list.len() {
-        let left = list.len() - (at + 1);
-        let answer = records::take(st, list[at], true, left);
-        let Record::Taken { placement, next } = answer else {
-            return block;
-        };
+        let kind = kinds::kind_of(list[at]);
+        let place = records::place(st, kind);
         let body = at + 1;
-        let changed = block::put_argument(block, out, placement, list, body);
+        let changed = block::put_argument(block, out, place, list, body);
         block = changed;
-        let kind = placement.kind;
         at = body + kind.size;
-        st = next;
+        st = records::state_behind(st, kind);
     }
     block
 }

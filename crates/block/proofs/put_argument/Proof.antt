@@ -69,7 +69,7 @@ returns-3 c =
     word-argument (a .place) _ _ body _ (c .before .before .before .before .before .before .before .before .before .if1 .left) (unsigned (c .before .before .before .before .before)) (c .before .before .before .promoted-at2 .ensures) (c .before .before .put-word2 .ensures)
 
 put-plain-requires : tie.Need-put-plain-requires
-put-plain-requires c κs = let s = c .before .before .before .before .before .before .before .before .before in (plain-fits (s .pre .0) (plain (c .before)), s .pre .1)
+put-plain-requires c κs = let s = c .before .before .before .before .before .before .before .before .before in (s .pre .0 .aligned, (plain-fits (s .pre .0) (plain (c .before)), s .pre .1))
 
 same-length-3 : tie.Need-same-length-3
 same-length-3 c = search needs

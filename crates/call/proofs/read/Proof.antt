@@ -3,7 +3,7 @@
 use mathlib.Core.Path.{sym, _∙_}
 use mathlib.Core.Bool.{false}
 use Rattle.call.proofs.Writing.{end-in-bounds}
-use Rattle.call.proofs.Reading.{readable, read-refused, read-wrong, read-short, read-room, read-improper, read-done}
+use Rattle.call.proofs.Reading.{found, read-refused, read-wrong, read-short, read-room, read-improper, read-done}
 use borrow.Author.Needs.{needs}
 use Rattle.call.proofs.read.Statement.{statement}
 use Rattle.call.proofs.read.Tie as tie
@@ -32,29 +32,20 @@ reply-requires c κs = search needs
 returns-2 : tie.Need-returns-2
 returns-2 c = let r = read-wrong (c .before .before .before .before .before .before .before .before .before .before .args .signature .now) (c .before .before .before .before .before .before .before .before .before .before .args .image .now) (c .before .before .before .before .before .before .before .before .before .before .args .out .now) _ (c .before .before .before .before .found .given .0 .1 .0) (c .before .before .image-length .result) (sym (c .before .before .before .before .found .given .1) ∙ c .before .before .before .before .before .before .measure-signature .ensures) (c .before .before .image-length .ensures) (c .before .if1 .taken) in (c .reply .ensures ∙ r .answer, r .buffer)
 
-list-length-requires : tie.Need-list-length-requires
-list-length-requires c κs = search needs
-
-enum-known-room : tie.Need-enum-known-room
-enum-known-room c = search needs
-
-enum-told-2 : tie.Need-enum-told-2
-enum-told-2 c = search needs
-
 reply-requires-2 : tie.Need-reply-requires-2
 reply-requires-2 c κs = search needs
 
 returns-3 : tie.Need-returns-3
-returns-3 c = let r = read-short (c .before .before .before .before .before .before .before .before .before .before .before .before .before .args .signature .now) (c .before .before .before .before .before .before .before .before .before .before .before .before .before .args .image .now) (c .before .before .before .before .before .before .before .before .before .before .before .before .before .args .out .now) (readable (c .before .before .before .before .before .before .before .before .before .before .before .before .before .args .signature .now) (c .before .before .before .before .before .before .before .before .before .before .before .before .before .args .image .now) _ (c .before .before .before .before .before .before .before .found .given .0 .1 .0) (c .before .before .before .before .before .image-length .result) (sym (c .before .before .before .before .before .before .before .found .given .1) ∙ c .before .before .before .before .before .before .before .before .before .measure-signature .ensures) (c .before .before .before .before .before .image-length .ensures) (c .before .before .before .before .if1 .left)) (sym (c .before .enum-told2 .given .1) ∙ c .before .before .before .list-length .ensures) in (c .reply2 .ensures ∙ r .answer, r .buffer)
+returns-3 c = let r = read-short (c .before .before .before .before .before .before .before .before .before .before .before .args .signature .now) (c .before .before .before .before .before .before .before .before .before .before .before .args .image .now) (c .before .before .before .before .before .before .before .before .before .before .before .args .out .now) (c .before .before .before .before .before .found .given .0 .0) (found (c .before .before .before .before .before .before .before .before .before .before .before .args .signature .now) (c .before .before .before .before .before .before .before .before .before .before .before .args .image .now) (c .before .before .before .before .before .found .given .0 .0) (c .before .before .before .before .before .found .given .0 .1 .0) (c .before .before .before .image-length .result) (sym (c .before .before .before .before .before .found .given .1) ∙ c .before .before .before .before .before .before .before .measure-signature .ensures) (c .before .before .before .image-length .ensures) (c .before .before .if1 .left)) (c .before .if2 .taken) in (c .reply2 .ensures ∙ r .answer, r .buffer)
 
 deliver-requires : tie.Need-deliver-requires
-deliver-requires c κs = ((readable (c .before .before .before .before .before .before .before .before .before .before .before .before .before .before .args .signature .now) (c .before .before .before .before .before .before .before .before .before .before .before .before .before .before .args .image .now) _ (c .before .before .before .before .before .before .before .before .found .given .0 .1 .0) (c .before .before .before .before .before .before .image-length .result) (sym (c .before .before .before .before .before .before .before .before .found .given .1) ∙ c .before .before .before .before .before .before .before .before .before .before .measure-signature .ensures) (c .before .before .before .before .before .before .image-length .ensures) (c .before .before .before .before .before .if1 .left)), read-room (c .before .before .before .before .before .before .before .before .before .before .before .before .before .before .args .signature .now) (c .before .before .before .before .before .before .before .before .before .before .before .before .before .before .args .image .now) (c .before .before .before .before .before .before .before .before .before .before .before .before .before .before .args .out .now) (readable (c .before .before .before .before .before .before .before .before .before .before .before .before .before .before .args .signature .now) (c .before .before .before .before .before .before .before .before .before .before .before .before .before .before .args .image .now) _ (c .before .before .before .before .before .before .before .before .found .given .0 .1 .0) (c .before .before .before .before .before .before .image-length .result) (sym (c .before .before .before .before .before .before .before .before .found .given .1) ∙ c .before .before .before .before .before .before .before .before .before .before .measure-signature .ensures) (c .before .before .before .before .before .before .image-length .ensures) (c .before .before .before .before .before .if1 .left)) (c .before .before .room .given .0 .0) (sym (c .before .before .room .given .1) ∙ c .before .before .before .before .list-length .ensures))
+deliver-requires c κs = ((found (c .before .before .before .before .before .before .before .before .before .before .before .args .signature .now) (c .before .before .before .before .before .before .before .before .before .before .before .args .image .now) (c .before .before .before .before .before .found .given .0 .0) (c .before .before .before .before .before .found .given .0 .1 .0) (c .before .before .before .image-length .result) (sym (c .before .before .before .before .before .found .given .1) ∙ c .before .before .before .before .before .before .before .measure-signature .ensures) (c .before .before .before .image-length .ensures) (c .before .before .if1 .left)) .readable, read-room (c .before .before .before .before .before .before .before .before .before .before .before .args .signature .now) (c .before .before .before .before .before .before .before .before .before .before .before .args .image .now) (c .before .before .before .before .before .before .before .before .before .before .before .args .out .now) (c .before .before .before .before .before .found .given .0 .0) (found (c .before .before .before .before .before .before .before .before .before .before .before .args .signature .now) (c .before .before .before .before .before .before .before .before .before .before .before .args .image .now) (c .before .before .before .before .before .found .given .0 .0) (c .before .before .before .before .before .found .given .0 .1 .0) (c .before .before .before .image-length .result) (sym (c .before .before .before .before .before .found .given .1) ∙ c .before .before .before .before .before .before .before .measure-signature .ensures) (c .before .before .before .image-length .ensures) (c .before .before .if1 .left)) (c .before .if2 .left))
+
+enum-told-2 : tie.Need-enum-told-2
+enum-told-2 c = search needs
 
 enum-told-3 : tie.Need-enum-told-3
 enum-told-3 c = search needs
-
-enum-told-4 : tie.Need-enum-told-4
-enum-told-4 c = search needs
 
 improper-requires : tie.Need-improper-requires
 improper-requires c κs = search needs
@@ -63,7 +54,7 @@ same-length : tie.Need-same-length
 same-length c = search needs
 
 returns-4 : tie.Need-returns-4
-returns-4 c = let r = read-improper (c .before .before .before .before .before .before .before .before .before .before .before .before .before .before .before .before .before .before .before .before .args .signature .now) (c .before .before .before .before .before .before .before .before .before .before .before .before .before .before .before .before .before .before .before .before .args .image .now) (c .before .before .before .before .before .before .before .before .before .before .before .before .before .before .before .before .before .before .before .before .args .out .now) (readable (c .before .before .before .before .before .before .before .before .before .before .before .before .before .before .before .before .before .before .before .before .args .signature .now) (c .before .before .before .before .before .before .before .before .before .before .before .before .before .before .before .before .before .before .before .before .args .image .now) _ (c .before .before .before .before .before .before .before .before .before .before .before .before .before .before .found .given .0 .1 .0) (c .before .before .before .before .before .before .before .before .before .before .before .before .image-length .result) (sym (c .before .before .before .before .before .before .before .before .before .before .before .before .before .before .found .given .1) ∙ c .before .before .before .before .before .before .before .before .before .before .before .before .before .before .before .before .measure-signature .ensures) (c .before .before .before .before .before .before .before .before .before .before .before .before .image-length .ensures) (c .before .before .before .before .before .before .before .before .before .before .before .if1 .left)) (c .before .before .before .before .before .before .before .before .room .given .0 .0) (sym (c .before .before .before .before .before .before .before .before .room .given .1) ∙ c .before .before .before .before .before .before .before .before .before .before .list-length .ensures) (c .before .before .before .before .before .deliver .result) _ (c .improper .result) _ (c .before .before .before .before .before .deliver .ensures .0) (c .before .before .before .before .before .deliver .ensures .1) (c .before .enum-told4 .given .1) (c .improper .ensures _ (c .before .enum-told4 .given .1)) in (r .answer, r .buffer)
+returns-4 c = let r = read-improper (c .before .before .before .before .before .before .before .before .before .before .before .before .before .before .before .before .before .args .signature .now) (c .before .before .before .before .before .before .before .before .before .before .before .before .before .before .before .before .before .args .image .now) (c .before .before .before .before .before .before .before .before .before .before .before .before .before .before .before .before .before .args .out .now) (c .before .before .before .before .before .before .before .before .before .before .before .found .given .0 .0) (found (c .before .before .before .before .before .before .before .before .before .before .before .before .before .before .before .before .before .args .signature .now) (c .before .before .before .before .before .before .before .before .before .before .before .before .before .before .before .before .before .args .image .now) (c .before .before .before .before .before .before .before .before .before .before .before .found .given .0 .0) (c .before .before .before .before .before .before .before .before .before .before .before .found .given .0 .1 .0) (c .before .before .before .before .before .before .before .before .before .image-length .result) (sym (c .before .before .before .before .before .before .before .before .before .before .before .found .given .1) ∙ c .before .before .before .before .before .before .before .before .before .before .before .before .before .measure-signature .ensures) (c .before .before .before .before .before .before .before .before .before .image-length .ensures) (c .before .before .before .before .before .before .before .before .if1 .left)) (c .before .before .before .before .before .before .before .if2 .left) (c .before .before .before .before .before .deliver .result) _ (c .improper .result) _ (c .before .before .before .before .before .deliver .ensures .0) (c .before .before .before .before .before .deliver .ensures .1) (c .before .enum-told3 .given .1) (c .improper .ensures _ (c .before .enum-told3 .given .1)) in (r .answer, r .buffer)
 
 reply-requires-3 : tie.Need-reply-requires-3
 reply-requires-3 c κs = search needs
@@ -72,7 +63,7 @@ same-length-2 : tie.Need-same-length-2
 same-length-2 c = search needs
 
 returns-5 : tie.Need-returns-5
-returns-5 c = let r = read-done (c .before .before .before .before .before .before .before .before .before .before .before .before .before .before .before .before .before .before .before .before .args .signature .now) (c .before .before .before .before .before .before .before .before .before .before .before .before .before .before .before .before .before .before .before .before .args .image .now) (c .before .before .before .before .before .before .before .before .before .before .before .before .before .before .before .before .before .before .before .before .args .out .now) (readable (c .before .before .before .before .before .before .before .before .before .before .before .before .before .before .before .before .before .before .before .before .args .signature .now) (c .before .before .before .before .before .before .before .before .before .before .before .before .before .before .before .before .before .before .before .before .args .image .now) _ (c .before .before .before .before .before .before .before .before .before .before .before .before .before .before .found .given .0 .1 .0) (c .before .before .before .before .before .before .before .before .before .before .before .before .image-length .result) (sym (c .before .before .before .before .before .before .before .before .before .before .before .before .before .before .found .given .1) ∙ c .before .before .before .before .before .before .before .before .before .before .before .before .before .before .before .before .measure-signature .ensures) (c .before .before .before .before .before .before .before .before .before .before .before .before .image-length .ensures) (c .before .before .before .before .before .before .before .before .before .before .before .if1 .left)) (c .before .before .before .before .before .before .before .before .room .given .0 .0) (sym (c .before .before .before .before .before .before .before .before .room .given .1) ∙ c .before .before .before .before .before .before .before .before .before .before .list-length .ensures) (c .before .before .before .before .before .deliver .result) _ (c .before .before .before .before .before .deliver .ensures .0) (c .before .before .before .before .before .deliver .ensures .1) (c .before .enum-told3 .given .1) in (c .reply3 .ensures ∙ r .answer, r .buffer)
+returns-5 c = let r = read-done (c .before .before .before .before .before .before .before .before .before .before .before .before .before .before .before .before .before .args .signature .now) (c .before .before .before .before .before .before .before .before .before .before .before .before .before .before .before .before .before .args .image .now) (c .before .before .before .before .before .before .before .before .before .before .before .before .before .before .before .before .before .args .out .now) (c .before .before .before .before .before .before .before .before .before .before .before .found .given .0 .0) (found (c .before .before .before .before .before .before .before .before .before .before .before .before .before .before .before .before .before .args .signature .now) (c .before .before .before .before .before .before .before .before .before .before .before .before .before .before .before .before .before .args .image .now) (c .before .before .before .before .before .before .before .before .before .before .before .found .given .0 .0) (c .before .before .before .before .before .before .before .before .before .before .before .found .given .0 .1 .0) (c .before .before .before .before .before .before .before .before .before .image-length .result) (sym (c .before .before .before .before .before .before .before .before .before .before .before .found .given .1) ∙ c .before .before .before .before .before .before .before .before .before .before .before .before .before .measure-signature .ensures) (c .before .before .before .before .before .before .before .before .before .image-length .ensures) (c .before .before .before .before .before .before .before .before .if1 .left)) (c .before .before .before .before .before .before .before .if2 .left) (c .before .before .before .before .before .deliver .result) _ (c .before .before .before .before .before .deliver .ensures .0) (c .before .before .before .before .before .deliver .ensures .1) (c .before .enum-told2 .given .1) in (c .reply3 .ensures ∙ r .answer, r .buffer)
 
 pub read-spec : {M : Type 1} → statement M
 read-spec =
@@ -86,14 +77,11 @@ read-spec =
     image-length-requires
     reply-requires
     returns-2
-    list-length-requires
-    enum-known-room
-    enum-told-2
     reply-requires-2
     returns-3
     deliver-requires
+    enum-told-2
     enum-told-3
-    enum-told-4
     improper-requires
     same-length
     returns-4

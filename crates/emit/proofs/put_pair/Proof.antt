@@ -3,20 +3,10 @@
 use mathlib.Core.Path.{_≡_}
 use Prim.Native.Nat.{_+_, _*_}
 use native.Mathlib.Omega.{arith}
-use Rattle.saves.specs.Masks.{below}
 use Rattle.emit.proofs.Emit.{two-words}
 use borrow.Author.Needs.{needs}
 use Rattle.emit.proofs.put_pair.Statement.{statement}
 use Rattle.emit.proofs.put_pair.Tie as tie
-
-count-below-requires : tie.Need-count-below-requires
-count-below-requires c κs = search needs
-
-mul-offset : tie.Need-mul-offset
-mul-offset c = search needs
-
-add-offset : tie.Need-add-offset
-add-offset c = search needs
 
 mul-word : tie.Need-mul-word
 mul-word c = search needs
@@ -53,20 +43,16 @@ same-length c = search needs
 
 returns : tie.Need-returns
 returns c =
-    let s = c .before .before .before .before .before .before .before .before .before .before .before .before .args in
+    let s = c .before .before .before .before .before .before .before .before .before .before .before .args in
     let w = c .before .before .before .before .before .before .before .before in
-    let offset = s .start + 8 * below (s .mask) (s .k) in
-    let even : w .before .word .result ≡ s .op + 65536 * (20 + 2 * s .k) + offset = omega arith in
-    let odd : w .word2 .result ≡ s .op + 65536 * (21 + 2 * s .k) + (offset + 4) = omega arith in
+    let even : w .before .word .result ≡ s .op + 65536 * (20 + 2 * s .k) + s .offset = omega arith in
+    let odd : w .word2 .result ≡ s .op + 65536 * (21 + 2 * s .k) + (s .offset + 4) = omega arith in
     rw (c .before .before .write-word2 .ensures, c .before .before .before .before .before .before .write-word .ensures, even, odd) (two-words (s .out .now) (s .at) _ _)
 
 pub put-pair-spec : {M : Type 1} → statement M
 put-pair-spec =
     tie.close
     (tie.spec
-    count-below-requires
-    mul-offset
-    add-offset
     mul-word
     add-word
     word-requires

@@ -2,22 +2,24 @@
 -- Assumes nothing.
 use mathlib.Core.Path.{_≡_, refl, sym, _∙_}
 use mathlib.Core.Logic.{⊎-elim}
-use Prim.Native.Nat.{_+_, _-_, _≤_}
+use Prim.Native.Nat.{_+_, _-_, _*_, _≤_}
 use native.Mathlib.Omega.{arith}
 use lib.ListN.{length}
+use Rattle.saves.specs.Masks.{below}
 use Rattle.saves.specs.Words.{registerAt}
 use Rattle.emit.proofs.Emit.{Put, none, kept, room, turn-yes, turn-no}
 use Rattle.emit.proofs.put_registers.Statement.{statement}
 use Rattle.emit.proofs.put_registers.Tie as tie
 
 abbrev Inv-loop : tie.InvT-loop
-Inv-loop out₀ at op mask start n₀ k₀ out n k = (k ≤ 32) × Put op 4 (registerAt start mask) mask at out₀ k n out
+Inv-loop out₀ at op mask start n₀ k₀ out n k =
+    (k ≤ 32) × Put op 4 (registerAt start mask) mask at out₀ k n out
 
 abbrev μ-loop : tie.MeasureT-loop
 μ-loop out₀ at op mask start n₀ k₀ out n k = 32 - k
 
 loop-holds : tie.Need-loop-holds Inv-loop μ-loop
-loop-holds c = (omega arith, none _ _ _ _ _ _)
+loop-holds c = (omega arith, none _ _ _ _ _ _ _ (c .before .pre .1 .1))
 
 is-named-requires : tie.Need-is-named-requires Inv-loop μ-loop
 is-named-requires c κs = omega arith
@@ -26,15 +28,25 @@ is-named-requires c κs = omega arith
 fits : (c : tie.Then1 Inv-loop μ-loop) → c .before .before .before .loop .n + 4 ≤ length (c .before .before .before .loop .out)
 fits c =
     room (c .before .before .before .loop .inv .1) 32 (c .before .before .loop-test .taken) (sym (c .before .is-named .ensures) ∙ c .if1 .taken)
-    (c .before .before .before .before .before .pre .1)
+    (c .before .before .before .before .before .pre .1 .0)
 
-put-register-requires : tie.Need-put-register-requires Inv-loop μ-loop
-put-register-requires c κs =
-    let s = c .before .before .before .before .before .before .pre .0 in
-    (s .0, s .1, c .before .before .before .loop-test .taken, fits (c .before))
+count-below-requires : tie.Need-count-below-requires Inv-loop μ-loop
+count-below-requires c κs = omega arith
+
+mul-word : tie.Need-mul-word Inv-loop μ-loop
+mul-word c = omega arith
+
+add-word : tie.Need-add-word Inv-loop μ-loop
+add-word c = omega arith
+
+word-requires : tie.Need-word-requires Inv-loop μ-loop
+word-requires c κs = (c .before .before .before .before .before .before .before .pre .0 .0, omega arith, omega arith)
+
+write-word-requires : tie.Need-write-word-requires Inv-loop μ-loop
+write-word-requires c κs = fits (c .before .before .before)
 
 add-n : tie.Need-add-n Inv-loop μ-loop
-add-n c = omega (arith, fits (c .before .before .before .before), kept (c .before .before .before .before .before .before .before .loop .inv .1))
+add-n c = omega (arith, fits (c .before .before .before .before .before .before), kept (c .before .before .before .before .before .before .before .before .before .loop .inv .1))
 
 add-k : tie.Need-add-k Inv-loop μ-loop
 add-k c = omega arith
@@ -44,12 +56,15 @@ loop-less c = omega arith
 
 loop-again : tie.Need-loop-again Inv-loop μ-loop
 loop-again c =
-    let p = c .before .before .before .loop .inv .1 in
+    let s = c .before .before .before .before .before .args in
+    let l = c .before .before .before .loop in
     let e = sym (c .before .is-named .ensures) in (
       omega arith,
       ⊎-elim
-          (λ w. turn-yes p (λ j. refl) (e ∙ w .0 .taken) (w .6) (w .5 ∙ w .2 .ensures))
-          (λ w. turn-no p (e ∙ w .0 .left) (w .2) (w .1))
+          (λ w.
+          let q : w .3 .result ≡ s .op + 65536 * l .k + (s .start + 4 * below (s .mask) (l .k)) = omega arith in
+          turn-yes (l .inv .1) (λ j. refl) (e ∙ w .0 .taken) (w .8) (w .7 ∙ rw q at (w .4 .ensures)))
+          (λ w. turn-no (l .inv .1) (e ∙ w .0 .left) (w .2) (w .1))
           (c .if1 .came),
     )
 
@@ -70,7 +85,11 @@ put-registers-spec =
     μ-loop
     loop-holds
     is-named-requires
-    put-register-requires
+    count-below-requires
+    mul-word
+    add-word
+    word-requires
+    write-word-requires
     add-n
     add-k
     loop-less

@@ -2,6 +2,7 @@
 -- Assumes nothing.
 use native.Mathlib.Omega.{arith}
 use Rattle.saves.specs.declared.Request.{Request}
+use Rattle.saves.proofs.Accepted.{accepted, low-general}
 use Rattle.frame.proofs.Bytes.{length-saves, saves-put}
 use Rattle.frame.proofs.Answers.{laid}
 use borrow.Author.Needs.{needs}
@@ -18,7 +19,8 @@ put-registers-requires : tie.Need-put-registers-requires
 put-registers-requires c κs =
     let s = c .before .before .before .before .before .before .pre .0 in
     let l = laid _ (s .0) (s .1) in
-    ((s .3, omega arith), omega (arith, length-saves (c .before .before .before .before .before .before .args .request)))
+    let r : Request = c .before .before .before .before .before .before .args .request in
+    ((s .3, omega arith), (omega (arith, length-saves r), low-general (accepted r (l .accepted))))
 
 same-length : tie.Need-same-length
 same-length c = search needs

@@ -1,18 +1,18 @@
 -- `measure` meets its contract: what the walk has found so far is what the whole has.
 -- Assumes nothing.
-use Prim.Native.Nat.{_-_}
 use native.Mathlib.Omega.{arith}
+use Prim.Native.Nat.{_-_}
 use lib.ListN.{length}
+use Rattle.measure.proofs.Measures.{Walking, walk-starts, walk-ends, walk-counts, walk-refused, walk-adds, walk-fits, walk-less, walk-goes}
 use borrow.Author.Needs.{needs}
-use Rattle.measure.proofs.Measures.{Walking, walk-starts, walk-ends, walk-refused, walk-fits, walk-less, walk-goes}
 use Rattle.measure.proofs.measure.Statement.{statement}
 use Rattle.measure.proofs.measure.Tie as tie
 
 abbrev Inv-loop : tie.InvT-loop
-Inv-loop records bodies st₀ at₀ st at = Walking bodies records st at
+Inv-loop list bodies st₀ n₀ at₀ st n at = Walking bodies list st n at
 
 abbrev μ-loop : tie.MeasureT-loop
-μ-loop records bodies st₀ at₀ st at = length records - at
+μ-loop list bodies st₀ n₀ at₀ st n at = length list - at
 
 start-requires : tie.Need-start-requires Inv-loop μ-loop
 start-requires c κs = search needs
@@ -30,7 +30,7 @@ shared-slice-read-take : tie.Need-shared-slice-read-take Inv-loop μ-loop
 shared-slice-read-take c = omega arith
 
 take-requires : tie.Need-take-requires Inv-loop μ-loop
-take-requires c κs = search needs
+take-requires c κs = c .before .before .loop .inv .fits
 
 enum-known-answer : tie.Need-enum-known-answer Inv-loop μ-loop
 enum-known-answer c = search needs
@@ -43,6 +43,12 @@ refusal-requires c κs = search needs
 
 returns : tie.Need-returns Inv-loop μ-loop
 returns c = search (walk-refused, c .refusal .ensures, needs)
+
+add-length : tie.Need-add-length Inv-loop μ-loop
+add-length c = omega (arith, walk-counts (c .before .before .before .before .before .before .before .before .before .args .bodies) (c .before .before .before .before .before .before .before .before .before .args .list .now) (c .before .before .before .before .before .before .loop .st) (c .before .before .before .before .before .before .loop .length) (c .before .before .before .before .before .before .loop .at) (c .before .before .before .before .before .before .loop .inv))
+
+add-length-2 : tie.Need-add-length-2 Inv-loop μ-loop
+add-length-2 c = record { fits = search (walk-adds, needs) }
 
 add-at : tie.Need-add-at Inv-loop μ-loop
 add-at c = omega arith
@@ -78,6 +84,8 @@ measure-spec =
     enum-told
     refusal-requires
     returns
+    add-length
+    add-length-2
     add-at
     body-behind-requires
     add-at-2

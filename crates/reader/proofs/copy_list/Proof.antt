@@ -1,21 +1,20 @@
 -- `copy_list` meets its contract: what was copied and the reading of what is ahead are the whole reading.
 -- Assumes nothing.
+use native.Mathlib.Omega.{arith}
 use mathlib.Core.Path.{_≡_, refl, _∙_}
 use mathlib.Core.Bool.{false}
 use Prim.Native.Nat.{_-_}
-use native.Mathlib.Omega.{arith}
 use lib.ListN.{length, getD, length-set}
-use borrow.Author.Needs.{needs}
 use Rattle.carried.specs.Convention.{plan}
 use Rattle.o32.specs.O32.{O32}
 use Rattle.reader.specs.Reading.{readingIn}
-use Rattle.reader.proofs.Passes.{Copying, copy-starts, copy-ends, copy-refused, copy-long, copy-fit, copy-room, copy-turn}
+use Rattle.reader.proofs.Passes.{Copying, copy-starts, copy-ends, copy-ready, copy-fit, copy-room, copy-within, copy-turn}
+use borrow.Author.Needs.{needs}
 use Rattle.reader.proofs.copy_list.Statement.{statement}
 use Rattle.reader.proofs.copy_list.Tie as tie
 
 abbrev Inv-loop : tie.InvT-loop
-Inv-loop signature image out₀ st₀ at₀ n₀ out st at n =
-    (length out ≡ length out₀) × Copying signature image out₀ (readingIn (plan O32 false signature) image) st at n out
+Inv-loop signature image out₀ st₀ at₀ n₀ out st at n = (length out ≡ length out₀) × Copying signature image out₀ (readingIn (plan O32 false signature) image) st at n out
 
 abbrev μ-loop : tie.MeasureT-loop
 μ-loop signature image out₀ st₀ at₀ n₀ out st at n = length signature - at
@@ -26,59 +25,47 @@ start-requires c κs = search needs
 loop-holds : tie.Need-loop-holds Inv-loop μ-loop
 loop-holds c = (refl, search (copy-starts, needs))
 
-add-left : tie.Need-add-left Inv-loop μ-loop
-add-left c = omega arith
+shared-slice-read-kind-of : tie.Need-shared-slice-read-kind-of Inv-loop μ-loop
+shared-slice-read-kind-of c = omega arith
 
-sub-left : tie.Need-sub-left Inv-loop μ-loop
-sub-left c = omega arith
+kind-of-requires : tie.Need-kind-of-requires Inv-loop μ-loop
+kind-of-requires c κs = search needs
 
-shared-slice-read-take : tie.Need-shared-slice-read-take Inv-loop μ-loop
-shared-slice-read-take c = omega arith
-
-take-requires : tie.Need-take-requires Inv-loop μ-loop
-take-requires c κs = search needs
-
-enum-known-answer : tie.Need-enum-known-answer Inv-loop μ-loop
-enum-known-answer c = search needs
-
-enum-told : tie.Need-enum-told Inv-loop μ-loop
-enum-told c = search needs
-
-same-length : tie.Need-same-length Inv-loop μ-loop
-same-length c = c .before .before .before .before .before .loop .inv .0
-
-returns : tie.Need-returns Inv-loop μ-loop
-returns c = absurd (copy-refused (c .before .before .before .before .before .before .before .before .before .before .args .signature .now) (c .before .before .before .before .before .before .before .before .before .before .args .image .now) (c .before .before .before .before .before .before .before .before .before .before .args .out .now) _ (c .before .before .before .before .before .loop .st) (c .before .before .before .before .before .loop .at) (c .before .before .before .before .before .loop .n) _ (c .before .before .before .before .before .loop .inv .1) (omega arith) (c .before .before .take .result) (c .before .before .take .ensures) (c .before .before .before .before .before .before .before .before .before .before .pre .1) _ (c .enum-told .given .1))
+place-requires : tie.Need-place-requires Inv-loop μ-loop
+place-requires c κs = search (copy-ready, needs)
 
 shared-slice-read-out : tie.Need-shared-slice-read-out Inv-loop μ-loop
 shared-slice-read-out c = omega arith
 
 slice-write-out : tie.Need-slice-write-out Inv-loop μ-loop
-slice-write-out c = omega (arith, copy-long (c .before .before .before .before .before .before .before .before .before .before .before .before .args .signature .now) (c .before .before .before .before .before .before .before .before .before .before .before .before .args .image .now) (c .before .before .before .before .before .before .before .before .before .before .before .before .args .out .now) _ (c .before .before .before .before .before .before .before .loop .st) (c .before .before .before .before .before .before .before .loop .at) (c .before .before .before .before .before .before .before .loop .n) _ (c .before .before .before .before .before .before .before .loop .inv .1) (omega arith) (c .before .before .before .before .take .result) (c .before .before .before .before .take .ensures) (c .before .before .before .before .before .before .before .before .before .before .before .before .pre .1), c .before .before .before .before .before .before .before .loop .inv .0)
+slice-write-out c = omega (arith, copy-room (c .before .before .before .before .before .before .before .before .before .before .args .signature .now) (c .before .before .before .before .before .before .before .before .before .before .args .image .now) (c .before .before .before .before .before .before .before .before .before .before .args .out .now) _ (c .before .before .before .before .before .loop .st) (c .before .before .before .before .before .loop .at) (c .before .before .before .before .before .loop .n) _ (c .before .before .before .before .before .loop .inv .1) (c .before .before .before .before .loop-test .taken) (c .before .before .kind-of .result) (c .before .before .kind-of .ensures) _ (c .before .place .ensures) (c .before .before .before .before .before .before .before .before .before .before .pre .1), c .before .before .before .before .before .loop .inv .0)
 
 add-body : tie.Need-add-body Inv-loop μ-loop
-add-body c = omega (arith, copy-long (c .before .before .before .before .before .before .before .before .before .before .before .before .args .signature .now) (c .before .before .before .before .before .before .before .before .before .before .before .before .args .image .now) (c .before .before .before .before .before .before .before .before .before .before .before .before .args .out .now) _ (c .before .before .before .before .before .before .before .loop .st) (c .before .before .before .before .before .before .before .loop .at) (c .before .before .before .before .before .before .before .loop .n) _ (c .before .before .before .before .before .before .before .loop .inv .1) (omega arith) (c .before .before .before .before .take .result) (c .before .before .before .before .take .ensures) (c .before .before .before .before .before .before .before .before .before .before .before .before .pre .1), c .before .before .before .before .before .before .before .loop .inv .0)
+add-body c = omega (arith, copy-room (c .before .before .before .before .before .before .before .before .before .before .args .signature .now) (c .before .before .before .before .before .before .before .before .before .before .args .image .now) (c .before .before .before .before .before .before .before .before .before .before .args .out .now) _ (c .before .before .before .before .before .loop .st) (c .before .before .before .before .before .loop .at) (c .before .before .before .before .before .loop .n) _ (c .before .before .before .before .before .loop .inv .1) (c .before .before .before .before .loop-test .taken) (c .before .before .kind-of .result) (c .before .before .kind-of .ensures) _ (c .before .place .ensures) (c .before .before .before .before .before .before .before .before .before .before .pre .1), c .before .before .before .before .before .loop .inv .0)
 
 get-body-requires : tie.Need-get-body-requires Inv-loop μ-loop
-get-body-requires c κs = (copy-fit (c .before .before .before .before .before .before .before .before .before .before .before .before .before .args .signature .now) (c .before .before .before .before .before .before .before .before .before .before .before .before .before .args .image .now) (c .before .before .before .before .before .before .before .before .before .before .before .before .before .args .out .now) _ (c .before .before .before .before .before .before .before .before .loop .st) (c .before .before .before .before .before .before .before .before .loop .at) (c .before .before .before .before .before .before .before .before .loop .n) _ (c .before .before .before .before .before .before .before .before .loop .inv .1) (omega arith) (c .before .before .before .before .before .take .result) (c .before .before .before .before .before .take .ensures) (c .before .before .before .before .before .before .before .before .before .before .before .before .before .pre .1) _ _ (c .before .before .before .answer .given .1), rw length-set (omega (arith, copy-room (c .before .before .before .before .before .before .before .before .before .before .before .before .before .args .signature .now) (c .before .before .before .before .before .before .before .before .before .before .before .before .before .args .image .now) (c .before .before .before .before .before .before .before .before .before .before .before .before .before .args .out .now) _ (c .before .before .before .before .before .before .before .before .loop .st) (c .before .before .before .before .before .before .before .before .loop .at) (c .before .before .before .before .before .before .before .before .loop .n) _ (c .before .before .before .before .before .before .before .before .loop .inv .1) (omega arith) (c .before .before .before .before .before .take .result) (c .before .before .before .before .before .take .ensures) (c .before .before .before .before .before .before .before .before .before .before .before .before .before .pre .1) _ _ (c .before .before .before .answer .given .1), c .before .before .before .before .before .before .before .before .loop .inv .0)))
+get-body-requires c κs = (search (copy-fit, needs), rw length-set (omega (arith, copy-room (c .before .before .before .before .before .before .before .before .before .before .before .args .signature .now) (c .before .before .before .before .before .before .before .before .before .before .before .args .image .now) (c .before .before .before .before .before .before .before .before .before .before .before .args .out .now) _ (c .before .before .before .before .before .before .loop .st) (c .before .before .before .before .before .before .loop .at) (c .before .before .before .before .before .before .loop .n) _ (c .before .before .before .before .before .before .loop .inv .1) (c .before .before .before .before .before .loop-test .taken) (c .before .before .before .kind-of .result) (c .before .before .before .kind-of .ensures) _ (c .before .before .place .ensures) (c .before .before .before .before .before .before .before .before .before .before .before .pre .1), c .before .before .before .before .before .before .loop .inv .0)))
 
 add-n : tie.Need-add-n Inv-loop μ-loop
-add-n c = omega (arith, copy-room (c .before .before .before .before .before .before .before .before .before .before .before .before .before .before .before .before .before .before .args .signature .now) (c .before .before .before .before .before .before .before .before .before .before .before .before .before .before .before .before .before .before .args .image .now) (c .before .before .before .before .before .before .before .before .before .before .before .before .before .before .before .before .before .before .args .out .now) _ (c .before .before .before .before .before .before .before .before .before .before .before .before .before .loop .st) (c .before .before .before .before .before .before .before .before .before .before .before .before .before .loop .at) (c .before .before .before .before .before .before .before .before .before .before .before .before .before .loop .n) _ (c .before .before .before .before .before .before .before .before .before .before .before .before .before .loop .inv .1) (c .before .before .before .before .before .before .before .before .before .before .before .before .loop-test .taken) (c .before .before .before .before .before .before .before .before .before .before .take .result) (c .before .before .before .before .before .before .before .before .before .before .take .ensures) (c .before .before .before .before .before .before .before .before .before .before .before .before .before .before .before .before .before .before .pre .1) _ _ (c .before .before .before .before .before .before .before .before .answer .given .1), c .before .before .before .before .before .before .before .before .before .before .before .before .before .before .before .before .before .before .good)
+add-n c = omega (arith, copy-within (c .before .before .before .before .before .before .before .before .before .before .before .before .before .before .before .args .signature .now) (c .before .before .before .before .before .before .before .before .before .before .before .before .before .before .before .args .image .now) (c .before .before .before .before .before .before .before .before .before .before .before .before .before .before .before .args .out .now) _ (c .before .before .before .before .before .before .before .before .before .before .loop .st) (c .before .before .before .before .before .before .before .before .before .before .loop .at) (c .before .before .before .before .before .before .before .before .before .before .loop .n) _ (c .before .before .before .before .before .before .before .before .before .before .loop .inv .1) (c .before .before .before .before .before .before .before .before .before .loop-test .taken) (c .before .before .before .before .before .before .before .kind-of .result) (c .before .before .before .before .before .before .before .kind-of .ensures) _ (c .before .before .before .before .before .before .place .ensures) (c .before .before .before .before .before .before .before .before .before .before .before .before .before .before .before .pre .1), c .before .before .before .before .before .before .before .before .before .before .before .before .before .before .before .good)
 
 add-at : tie.Need-add-at Inv-loop μ-loop
-add-at c = omega (arith, c .before .before .before .before .before .before .before .before .before .before .before .before .loop-test .taken, c .before .before .before .before .before .before .before .before .before .before .before .before .before .before .before .before .before .before .good)
+add-at c = omega (arith, c .before .before .before .before .before .before .before .before .before .loop-test .taken)
+
+state-behind-requires : tie.Need-state-behind-requires Inv-loop μ-loop
+state-behind-requires c κs = search (copy-ready, needs)
 
 loop-less : tie.Need-loop-less Inv-loop μ-loop
-loop-less c = omega (arith, c .before .before .before .before .before .before .before .before .before .before .before .before .loop-test .taken)
+loop-less c = omega (arith, c .before .before .before .before .before .before .before .before .before .before .loop-test .taken)
 
 loop-again : tie.Need-loop-again Inv-loop μ-loop
-loop-again c = (c .before .before .before .before .get-body .kept .1 .1 .0 ∙ length-set (c .before .before .before .before .before .before .before .before .before .before .before .before .before .loop .out) (c .before .before .before .before .before .before .before .before .before .before .before .before .before .loop .n) (getD (c .before .before .before .before .before .before .before .before .before .before .before .before .before .before .before .before .before .before .args .signature .now) (c .before .before .before .before .before .before .before .before .before .before .before .before .before .loop .at) 0) ∙ c .before .before .before .before .before .before .before .before .before .before .before .before .before .loop .inv .0, copy-turn (c .before .before .before .before .before .before .before .before .before .before .before .before .before .before .before .before .before .before .args .signature .now) (c .before .before .before .before .before .before .before .before .before .before .before .before .before .before .before .before .before .before .args .image .now) (c .before .before .before .before .before .before .before .before .before .before .before .before .before .before .before .before .before .before .args .out .now) _ (c .before .before .before .before .before .before .before .before .before .before .before .before .before .loop .st) (c .before .before .before .before .before .before .before .before .before .before .before .before .before .loop .at) (c .before .before .before .before .before .before .before .before .before .before .before .before .before .loop .n) _ (c .before .before .before .before .before .before .before .before .before .before .before .before .before .loop .inv .1) (c .before .before .before .before .before .before .before .before .before .before .before .before .loop-test .taken) (c .before .before .before .before .before .before .before .before .before .before .take .result) (c .before .before .before .before .before .before .before .before .before .before .take .ensures) (c .before .before .before .before .before .before .before .before .before .before .before .before .before .before .before .before .before .before .pre .1) _ _ (c .before .before .before .before .before .before .before .before .answer .given .1) _ (c .before .before .before .before .get-body .ensures))
+loop-again c = (c .before .before .before .before .get-body .kept .1 .1 .0 ∙ length-set (c .before .before .before .before .before .before .before .before .before .before .before .loop .out) (c .before .before .before .before .before .before .before .before .before .before .before .loop .n) (getD (c .before .before .before .before .before .before .before .before .before .before .before .before .before .before .before .before .args .signature .now) (c .before .before .before .before .before .before .before .before .before .before .before .loop .at) 0) ∙ c .before .before .before .before .before .before .before .before .before .before .before .loop .inv .0, copy-turn (c .before .before .before .before .before .before .before .before .before .before .before .before .before .before .before .before .args .signature .now) (c .before .before .before .before .before .before .before .before .before .before .before .before .before .before .before .before .args .image .now) (c .before .before .before .before .before .before .before .before .before .before .before .before .before .before .before .before .args .out .now) _ (c .before .before .before .before .before .before .before .before .before .before .before .loop .st) (c .before .before .before .before .before .before .before .before .before .before .before .loop .at) (c .before .before .before .before .before .before .before .before .before .before .before .loop .n) _ (c .before .before .before .before .before .before .before .before .before .before .before .loop .inv .1) (c .before .before .before .before .before .before .before .before .before .before .loop-test .taken) (c .before .before .before .before .before .before .before .before .kind-of .result) (c .before .before .before .before .before .before .before .before .kind-of .ensures) _ (c .before .before .before .before .before .before .before .place .ensures) (c .before .before .before .before .before .before .before .before .before .before .before .before .before .before .before .before .pre .1) _ (c .state-behind .ensures) _ (c .before .before .before .before .get-body .ensures))
 
-same-length-2 : tie.Need-same-length-2 Inv-loop μ-loop
-same-length-2 c = c .before .loop .inv .0
+same-length : tie.Need-same-length Inv-loop μ-loop
+same-length c = c .before .loop .inv .0
 
-returns-2 : tie.Need-returns-2 Inv-loop μ-loop
-returns-2 c = search (copy-ends, needs)
+returns : tie.Need-returns Inv-loop μ-loop
+returns c = search (copy-ends, needs)
 
 pub copy-list-spec : {M : Type 1} → statement M
 copy-list-spec =
@@ -88,21 +75,17 @@ copy-list-spec =
     μ-loop
     start-requires
     loop-holds
-    add-left
-    sub-left
-    shared-slice-read-take
-    take-requires
-    enum-known-answer
-    enum-told
-    same-length
-    returns
+    shared-slice-read-kind-of
+    kind-of-requires
+    place-requires
     shared-slice-read-out
     slice-write-out
     add-body
     get-body-requires
     add-n
     add-at
+    state-behind-requires
     loop-less
     loop-again
-    same-length-2
-    returns-2)
+    same-length
+    returns)

@@ -16,7 +16,7 @@ ending-of-requires : tie.Need-ending-of-requires
 ending-of-requires c κs = search needs
 
 add-t6 : tie.Need-add-t6
-add-t6 c = omega (arith, counts (c .before .before .before .before .args .st) (c .before .before .before .before .args .kind) (c .before .before .before .is-class .result) (c .before .before .before .is-class .ensures) (c .before .before .if1 .left) (c .before .before .before .before .pre .1 .1 .1))
+add-t6 c = omega (arith, counts (c .before .before .before .before .args .st) (c .before .before .before .before .args .kind) (c .before .before .before .is-class .result) (c .before .before .before .is-class .ensures) (c .before .before .if1 .left) (c .before .before .before .before .pre .few))
 
 has-pointer-requires : tie.Need-has-pointer-requires
 has-pointer-requires c κs = search needs

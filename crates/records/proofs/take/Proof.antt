@@ -1,8 +1,7 @@
--- `take` meets its contract: each return is the first refusal whose condition holds, or the placement.
+-- `take` meets its contract: each return is the first refusal whose condition holds, or the record's kind and the state behind.
 -- Assumes nothing.
 use mathlib.Core.Path.{sym, _∙_}
-use native.Mathlib.Omega.{arith}
-use Rattle.records.proofs.Answers.{refused-1, refused-2, refused-3, refused-4, refused-5-before, refused-5-behind, accepted, kind-aligned, kind-small}
+use Rattle.records.proofs.Answers.{refused-1, refused-2, refused-3, refused-4, refused-5, accepted, ready}
 use borrow.Author.Needs.{needs}
 use Rattle.records.proofs.take.Statement.{statement}
 use Rattle.records.proofs.take.Tie as tie
@@ -34,23 +33,14 @@ body-behind-requires c κs = search needs
 returns-4 : tie.Need-returns-4
 returns-4 c = search (refused-4, needs)
 
-returns-5 : tie.Need-returns-5
-returns-5 c = search (refused-5-before, needs)
-
 state-behind-requires : tie.Need-state-behind-requires
-state-behind-requires c κs = (kind-aligned (c .before .before .before .before .before .before .before .before .before .before .before .args .byte) (c .before .before .before .before .before .before .before .before .before .before .kind-of .result) (c .before .before .before .before .before .before .before .before .before .before .kind-of .ensures), (kind-small (c .before .before .before .before .before .before .before .before .before .before .before .args .byte) (c .before .before .before .before .before .before .before .before .before .before .kind-of .result) (c .before .before .before .before .before .before .before .before .before .before .kind-of .ensures), (omega arith, sym (c .before .before .before .before .before .is-full .ensures) ∙ c .before .before .before .before .if3 .left)))
+state-behind-requires c κs = ready (c .before .before .before .before .before .before .before .before .before .args .st) (c .before .before .before .before .before .before .before .before .before .args .byte) (c .before .before .before .before .before .before .before .before .kind-of .result) (c .before .before .before .before .before .before .before .before .kind-of .ensures) (sym (c .before .before .before .is-full .ensures) ∙ c .before .before .if3 .left) (c .before .before .before .before .before .before .before .before .before .pre)
+
+returns-5 : tie.Need-returns-5
+returns-5 c = search (refused-5, needs)
 
 returns-6 : tie.Need-returns-6
-returns-6 c = search (refused-5-behind, needs)
-
-align-up-requires : tie.Need-align-up-requires
-align-up-requires c κs = search (kind-aligned, needs)
-
-register-of-requires : tie.Need-register-of-requires
-register-of-requires c κs = search needs
-
-returns-7 : tie.Need-returns-7
-returns-7 c = accepted (c .before .before .before .before .before .before .before .before .before .before .before .before .before .before .before .before .args .st) (c .before .before .before .before .before .before .before .before .before .before .before .before .before .before .before .before .args .byte) (c .before .before .before .before .before .before .before .before .before .before .before .before .before .before .before .before .args .bodies) (c .before .before .before .before .before .before .before .before .before .before .before .before .before .before .before .before .args .left) (c .before .before .before .before .before .before .before .before .before .before .before .before .before .before .before .kind-of .result) (c .before .before .before .before .before .before .before .before .before .before .before .before .before .before .before .kind-of .ensures) (c .before .before .before .before .before .before .before .before .before .before .before .before .before .before .is-class .result) (c .before .before .before .before .before .before .before .before .before .before .before .before .before .before .is-class .ensures) (c .before .before .before .before .before .before .before .before .before .before .before .before .before .if1 .left) (c .before .before .before .before .before .before .before .before .before .before .before .before .is-misplaced .result) (c .before .before .before .before .before .before .before .before .before .before .before .before .is-misplaced .ensures) (c .before .before .before .before .before .before .before .before .before .before .before .if2 .left) (c .before .before .before .before .before .before .before .before .before .before .is-full .result) (c .before .before .before .before .before .before .before .before .before .before .is-full .ensures) (c .before .before .before .before .before .before .before .before .before .if3 .left) (c .before .before .before .before .before .before .before .before .body-behind .result) (c .before .before .before .before .before .before .before .before .body-behind .ensures) (c .before .before .before .before .before .before .before .if4 .left) (c .before .before .before .before .state-behind .result) (c .before .align-up .result) (c .register-of .result) (c .before .before .before .before .state-behind .ensures) (c .before .before .if6 .left) (c .before .align-up .ensures) (c .register-of .ensures)
+returns-6 c = accepted (c .before .before .before .before .before .before .before .before .before .before .before .before .args .st) (c .before .before .before .before .before .before .before .before .before .before .before .before .args .byte) (c .before .before .before .before .before .before .before .before .before .before .before .before .args .bodies) (c .before .before .before .before .before .before .before .before .before .before .before .before .args .left) (c .before .before .before .before .before .before .before .before .before .before .before .kind-of .result) (c .before .before .before .before .before .before .before .before .before .before .before .kind-of .ensures) (c .before .before .before .before .before .before .before .before .before .before .is-class .result) (c .before .before .before .before .before .before .before .before .before .before .is-class .ensures) (c .before .before .before .before .before .before .before .before .before .if1 .left) (c .before .before .before .before .before .before .before .before .is-misplaced .result) (c .before .before .before .before .before .before .before .before .is-misplaced .ensures) (c .before .before .before .before .before .before .before .if2 .left) (c .before .before .before .before .before .before .is-full .result) (c .before .before .before .before .before .before .is-full .ensures) (c .before .before .before .before .before .if3 .left) (c .before .before .before .before .body-behind .result) (c .before .before .before .before .body-behind .ensures) (c .before .before .before .if4 .left) (c .before .before .state-behind .result) (c .before .before .state-behind .ensures) (c .if5 .left)
 
 pub take-spec : {M : Type 1} → statement M
 take-spec =
@@ -65,9 +55,6 @@ take-spec =
     returns-3
     body-behind-requires
     returns-4
-    returns-5
     state-behind-requires
-    returns-6
-    align-up-requires
-    register-of-requires
-    returns-7)
+    returns-5
+    returns-6)

@@ -1,0 +1,17 @@
+-- `place` meets its contract.
+-- Assumes nothing.
+use borrow.Author.Needs.{needs}
+use Rattle.records.proofs.place.Statement.{statement}
+use Rattle.records.proofs.place.Tie as tie
+
+align-up-requires : tie.Need-align-up-requires
+align-up-requires c κs = (c .pre .aligned, c .pre .fits)
+
+register-of-requires : tie.Need-register-of-requires
+register-of-requires c κs = search needs
+
+returns : tie.Need-returns
+returns c = rw (c .before .align-up .ensures, c .register-of .ensures)
+
+pub place-spec : {M : Type 1} → statement M
+place-spec = tie.close (tie.spec align-up-requires register-of-requires returns)
