@@ -7,7 +7,8 @@ use native.Mathlib.Omega.{arith}
 use native.Mathlib.Numerals.{add-one}
 use native.Mathlib.Nat.{zero-add, suc-add, add-zero, add-suc}
 use lib.ListN.{length, getD, set, take, drop, length-append, length-drop}
-use lib.Seq.{length-take-le, take-suc, take-add, getD-drop, drop-drop, drop-set-add, set-at, append-snoc}
+use lib.Seq.{sets, length-take-le, take-suc, take-add, getD-drop, drop-drop, drop-set-add, set-at, append-snoc}
+use Rattle.words.specs.Words.{bytesOf}
 use Rattle.carried.specs.Image.{put}
 use Rattle.o32.specs.O32.{run}
 use Rattle.carried.proofs.Places as Places
@@ -38,6 +39,16 @@ pub store-next : (img src : List ℕ) (to at i : ℕ) → at + i < length src
 store-next img src to at i h =
     let one : take 1 (drop (at + i) src) ≡ getD src (at + i) 0 ∷ [] = take-suc (drop (at + i) src) 0 0 (rw length-drop (omega arith)) ∙ rw (getD-drop, add-zero) in
     rw (← store-more img src to at i 1 (omega arith), one)
+
+-- bytes set from a place on are stored at the run of them
+sets-run : (vs l : List ℕ) (i : ℕ) → sets l i vs ≡ put l (run i (length vs)) vs
+sets-run [] l i = refl
+sets-run (v ∷ vs) l i = sets-run vs (set l i v) (suc i)
+
+-- a word of a source, read and written as a word
+pub word-copied : (out src : List ℕ) (to at n w : ℕ) {out′ : List ℕ} → n ≡ 4 → bytesOf 4 w ≡ take 4 (drop at src)
+    → out′ ≡ sets out to (bytesOf 4 w) → out′ ≡ put out (run to n) (take n (drop at src))
+word-copied out src to at n w e f g = rw (e, ← f) (g ∙ sets-run (bytesOf 4 w) out to)
 
 -- ---- stores into the first of two parts of a list, into the second, and where the first ends
 

@@ -16,12 +16,12 @@ use Rattle.o32.specs.declared.Kind.{Kind}
 use Rattle.o32.specs.declared.State.{State}
 use Rattle.o32.specs.declared.Placement.{Placement}
 use Rattle.o32.specs.Kinds.{kindOf}
-use Rattle.o32.specs.Offsets.{extension}
+use Rattle.o32.specs.Offsets.{extension, offset}
 use Rattle.o32.specs.O32.{O32, carriers, onward, placement, run}
 use Rattle.records.specs.Records.{Ready}
 use Rattle.placement.specs.Fitting.{Fit}
 use Rattle.block.proofs.Stores.{put-next}
-use Rattle.records.proofs.Ahead.{Ahead, ahead-starts, ahead-ends, ahead-ready, ahead-sized, ahead-fit, Behind, ahead-turn}
+use Rattle.records.proofs.Ahead.{Ahead, ahead-starts, ahead-ends, ahead-ready, ahead-sized, ahead-fit, ahead-placed, Behind, ahead-turn}
 use Rattle.reader.specs.declared.Checked.{Checked}
 use Rattle.reader.specs.declared.Checked.the-variants as K
 use Rattle.reader.specs.Reading.{firstImproper, improperIn, readingIn, delivered, Readable}
@@ -49,12 +49,15 @@ module _ (sig img : List ℕ) (found : Checked) (st : State) (at : ℕ) (w : Che
     pub check-fit : Fit p (length img)
     check-fit = ahead-fit false sig (length img) st at (w .ahead) h kd e p g (length img) (omega arith)
 
+    pub check-placed : Ready st (p .kind) × (p .offset ≡ offset (p .kind) (st .end))
+    check-placed = ahead-placed false sig (length img) st at (w .ahead) h kd e p g
+
     module _ (u : Bool) (a : u ≡ proper (extension (p .kind)) (p .kind .size) (gather img (carriers p))) where
       -- what is found from here on, by this record's test
       from-here : (L : List Placed) → w .ahead .placed ≡ O32 .placedAt (getD sig at 0) p ∷ L → found ≡ cond u (firstImproper (at + 1) L img) (K.Improper at)
       from-here L b = w .same ∙ ap (λ (M : List Placed). firstImproper at M img) b ∙ rw (a, add-one at)
 
-      next-from : (st′ : State) → st′ ≡ onward st kd → Behind false sig (length img) at (w .ahead .placed) p st′ (at + 1)
+      next-from : (st′ : State) → st′ ≡ onward st (p .kind) → Behind false sig (length img) at (w .ahead .placed) p st′ (at + 1)
       next-from st′ o = ahead-turn false sig (length img) st at (w .ahead) h kd e p g st′ o (at + 1) (omega arith)
 
       decided : (t : Bool) → u ≡ t → (L : List Placed) → w .ahead .placed ≡ O32 .placedAt (getD sig at 0) p ∷ L → found ≡ cond t (firstImproper (at + 1) L img) (K.Improper at)
@@ -62,10 +65,10 @@ module _ (sig img : List ℕ) (found : Checked) (st : State) (at : ℕ) (w : Che
 
       pub check-stops : u ≡ false → K.Improper at ≡ found
       check-stops b =
-          let v : Behind false sig (length img) at (w .ahead .placed) p (onward st kd) (at + 1) = next-from (onward st kd) refl in
+          let v : Behind false sig (length img) at (w .ahead .placed) p (onward st (p .kind)) (at + 1) = next-from (onward st (p .kind)) refl in
           sym (decided false b (v .rest .placed) (v .split))
 
-      pub check-turn : u ≡ true → (st′ : State) → st′ ≡ onward st kd → Checking sig img found st′ (at + 1)
+      pub check-turn : u ≡ true → (st′ : State) → st′ ≡ onward st (p .kind) → Checking sig img found st′ (at + 1)
       check-turn b st′ o =
           let v : Behind false sig (length img) at (w .ahead .placed) p st′ (at + 1) = next-from st′ o in
           record { ahead = v .rest; same = decided true b (v .rest .placed) (v .split) }
@@ -116,6 +119,9 @@ module _ (sig img out₀ final : List ℕ) (st : State) (at n : ℕ) (out : List
     pub copy-fit : Fit p (length img)
     copy-fit = ahead-fit false sig (length img) st at (w .ahead) h kd e p g (length img) (omega arith)
 
+    pub copy-placed : Ready st (p .kind) × (p .offset ≡ offset (p .kind) (st .end))
+    copy-placed = ahead-placed false sig (length img) st at (w .ahead) h kd e p g
+
     size-is : p .kind .size ≡ kd .size
     size-is = ap (λ (x : Placement). x .kind .size) g
 
@@ -129,20 +135,20 @@ module _ (sig img out₀ final : List ℕ) (st : State) (at n : ℕ) (out : List
     split-here : (L : List Placed) → w .ahead .placed ≡ O32 .placedAt (getD sig at 0) p ∷ L → (w .first ++ (getD sig at 0 ∷ body-here)) ++ reading L img ≡ final
     split-here L b = append-assoc (w .first) (getD sig at 0 ∷ body-here) (reading L img) ∙ ap (λ (M : List Placed). w .first ++ reading M img) (sym b) ∙ w .whole
 
-    next-copy : (st′ : State) → st′ ≡ onward st kd → Behind false sig (length img) at (w .ahead .placed) p st′ (at + 1)
+    next-copy : (st′ : State) → st′ ≡ onward st (p .kind) → Behind false sig (length img) at (w .ahead .placed) p st′ (at + 1)
     next-copy st′ o = ahead-turn false sig (length img) st at (w .ahead) h kd e p g st′ o (at + 1) (omega arith)
 
     module _ (room : length final ≤ length out₀) where
       pub copy-room : n + 1 + p .kind .size ≤ length out₀
       copy-room =
-          let v : Behind false sig (length img) at (w .ahead .placed) p (onward st kd) (at + 1) = next-copy (onward st kd) refl in
+          let v : Behind false sig (length img) at (w .ahead .placed) p (onward st (p .kind)) (at + 1) = next-copy (onward st (p .kind)) refl in
           let l : length ((w .first ++ (getD sig at 0 ∷ body-here)) ++ reading (v .rest .placed) img) ≡ length final = ap length (split-here (v .rest .placed) (v .split)) in
           omega (arith, l, length-append (w .first ++ (getD sig at 0 ∷ body-here)) (reading (v .rest .placed) img), length-append (w .first) (getD sig at 0 ∷ body-here), w .long, body-long)
 
       pub copy-within : n + 1 + kd .size ≤ length out₀
       copy-within = omega (arith, copy-room, size-is)
 
-      pub copy-turn : (st′ : State) → st′ ≡ onward st kd → (out′ : List ℕ) → out′ ≡ put (set out n (getD sig at 0)) (run (n + 1) (p .kind .size)) (body (p .kind .size) (gather img (carriers p)))
+      pub copy-turn : (st′ : State) → st′ ≡ onward st (p .kind) → (out′ : List ℕ) → out′ ≡ put (set out n (getD sig at 0)) (run (n + 1) (p .kind .size)) (body (p .kind .size) (gather img (carriers p)))
           → Copying sig img out₀ final st′ (at + 1) (n + 1 + kd .size) out′
       copy-turn st′ o out′ i =
           let k : ℕ = getD sig at 0 in

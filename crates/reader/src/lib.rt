@@ -28,7 +28,7 @@ fn check(signature: &[u8], image: &[u8]) -> Checked
             return Checked::Improper(at);
         }
         at += 1;
-        st = records::state_behind(st, kind);
+        st = records::state_behind(st, place);
     }
     Checked::Proper
 }
@@ -50,7 +50,7 @@ fn copy_list(signature: &[u8], image: &[u8], out: &mut [u8])
         fetch::get_body(image, place, out, body);
         n = body + kind.size;
         at += 1;
-        st = records::state_behind(st, kind);
+        st = records::state_behind(st, place);
     }
 }
 

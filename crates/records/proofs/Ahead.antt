@@ -17,13 +17,13 @@ use Rattle.o32.specs.declared.Kind.{Kind}
 use Rattle.o32.specs.declared.State.{State}
 use Rattle.o32.specs.declared.Placement.{Placement}
 use Rattle.o32.specs.Kinds.{kindOf, is}
-use Rattle.o32.specs.Offsets.{extension}
+use Rattle.o32.specs.Offsets.{extension, offset}
 use Rattle.o32.specs.O32.{O32, area, carriers, onward, placement, register}
 use Rattle.placement.proofs.KindFacts.{kind-sound}
 use Rattle.placement.proofs.Laws.{O32-laws, up-ge}
 use Rattle.placement.proofs.Steps.{ends-within, word-aligned, register-floats}
 use Rattle.records.specs.Records.{Ready}
-use Rattle.records.proofs.Answers.{ready}
+use Rattle.records.proofs.Answers.{ready, placed-ready}
 use Rattle.records.proofs.Taken.{Placing, placing}
 use Rattle.placement.specs.Fitting.{Fit}
 
@@ -136,5 +136,8 @@ module _ (bodies : Bool) (list : List ℕ) (m : ℕ) (st : State) (at : ℕ) (w 
       pub ahead-fit : (room : ℕ) → m ≤ room → Fit p room
       ahead-fit room l = rw (g, e) (fits-image st k room here (omega (arith, grows (w .placed) parts)))
 
-      pub ahead-turn : (st′ : State) → st′ ≡ onward st kd → (at′ : ℕ) → at′ ≡ at + 1 + behind bodies (kd .size) → Behind bodies list m at (w .placed) p st′ at′
+      pub ahead-placed : Ready st (p .kind) × (p .offset ≡ offset (p .kind) (st .end))
+      ahead-placed = placed-ready st kd p g ahead-ready
+
+      pub ahead-turn : (st′ : State) → st′ ≡ onward st (p .kind) → (at′ : ℕ) → at′ ≡ at + 1 + behind bodies (kd .size) → Behind bodies list m at (w .placed) p st′ at′
       ahead-turn st′ o at′ i = rw (i, o, g, e) behind-it

@@ -12,11 +12,12 @@ use Rattle.carried.specs.Convention.{refuse, next, behind, limited, taken}
 use Rattle.o32.specs.declared.Class.the-variants.{Unknown, Marker, Pointer, Float}
 use Rattle.o32.specs.declared.Kind.{Kind}
 use Rattle.o32.specs.declared.State.{State}
+use Rattle.o32.specs.declared.Placement.{Placement}
 use Rattle.records.specs.declared.Record.{Record}
 use Rattle.records.specs.declared.Record.the-variants as R
 use Rattle.o32.specs.Kinds.{kindOf, is}
 use Rattle.words.specs.Words.{up}
-use Rattle.o32.specs.Offsets.{ending}
+use Rattle.o32.specs.Offsets.{offset, width}
 use Rattle.o32.specs.O32.{O32, register, misplaced, full, onward, placement, stepped}
 use Rattle.records.specs.Records.{Alignment, recordOf, Ready}
 use Rattle.placement.proofs.KindFacts.{kind-sound}
@@ -95,10 +96,10 @@ module _ (st : State) (k : Kind) where
       → record { end = st .end; count = st .count; pointer = st .pointer; floating = st .floating; marked = true } ≡ onward st k
   behind-marker u f g = rw (sym f ∙ g)
 
-  pub behind-argument : (u : Bool) (e : ℕ) (p f : Bool) → u ≡ is Marker k → u ≡ false → e ≡ ending k (st .end)
+  pub behind-argument : (u : Bool) (o w v : ℕ) (p f : Bool) → u ≡ is Marker k → u ≡ false → o ≡ offset k (st .end) → w ≡ width k → v ≡ up 4 w
       → p ≡ st .pointer || is Pointer k → f ≡ cond (eqb (st .count) 0) (is Float k) (st .floating)
-      → record { end = e; count = st .count + 1; pointer = p; floating = f; marked = st .marked } ≡ onward st k
-  behind-argument u e p f g h x y z = rw (sym g ∙ h, x, y, z)
+      → record { end = o + v; count = st .count + 1; pointer = p; floating = f; marked = st .marked } ≡ onward st k
+  behind-argument u o w v p f g h a b c y z = rw (sym g ∙ h, a, c, b, y, z)
 
   pub counts : (u : Bool) → u ≡ is Marker k → u ≡ false → full st k ≡ false → st .count < 32
   counts u f g h = leb-false 32 (st .count) (argument-fits u f g ∙ h)
@@ -128,16 +129,27 @@ module _ (st : State) (k : ℕ) (bodies : Bool) (left : ℕ) (kd : Kind) (e : kd
           pub refused-4 : left < b → Given (R.Refused 4)
           refused-4 h = answer (R.Refused 4) (rw (sym known ∙ h₁, sym placed ∙ h₂, sym roomy ∙ h₃, lt-ltb left (behind bodies (kd .size)) (rw needed at h)))
 
-          module _ (h₄ : b ≤ left) (n : State) (on : n ≡ onward st kd) where
+          module _ (h₄ : b ≤ left) (p : Placement) (g : p ≡ placement st kd) (n : State) (on : n ≡ onward st (p .kind)) where
+            behind-it : n ≡ onward st kd
+            behind-it = on ∙ ap (λ (x : Placement). onward st (x .kind)) g
+
             limit : (r : Record) → r ≡ recordOf (cond (leb (onward st kd .end) 1024) (next (placement st kd) (onward st kd)) (refuse 5)) → Given r
             limit r h = answer r (h ∙ sym (rw (sym known ∙ h₁, sym placed ∙ h₂, sym roomy ∙ h₃, le-ltb left (behind bodies (kd .size)) (rw needed at h₄))))
 
             pub refused-5 : 1024 < n .end → Given (R.Refused 5)
-            refused-5 h = limit (R.Refused 5) (rw (lt-leb (onward st kd .end) 1024 (rw on at h)))
+            refused-5 h = limit (R.Refused 5) (rw (lt-leb (onward st kd .end) 1024 (rw behind-it at h)))
 
             pub accepted : n .end ≤ 1024 → Given (R.Taken kd n)
-            accepted h = limit _ (rw on (rw (le-leb (onward st kd .end) 1024 (rw on at h))))
+            accepted h = limit _ (rw behind-it (rw (le-leb (onward st kd .end) 1024 (rw behind-it at h))))
 
 -- a kind of the table can be placed behind arguments in their limits
 pub ready : (st : State) (k : ℕ) (kd : Kind) → kd ≡ kindOf k → full st kd ≡ false → st .end ≤ 1024 → Ready st kd
 ready st k kd e f h = record { aligned = rw e (kind-sound k .alignments); small = rw e (kind-sound k .small); fits = h; few = f }
+
+-- with its placement, the state behind it can be told
+pub placed-ready : (st : State) (kd : Kind) (p : Placement) → p ≡ placement st kd → Ready st kd → Ready st (p .kind) × (p .offset ≡ offset (p .kind) (st .end))
+placed-ready st kd p g r = rw g (r, refl)
+
+-- the ends that are added up are small
+pub offset-small : (st : State) (k : Kind) (o : ℕ) → Ready st k → o ≡ offset k (st .end) → o ≤ 1031
+offset-small st k o r e = omega (arith, up-small (k .alignment) (st .end) (r .aligned), r .fits)

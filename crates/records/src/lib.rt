@@ -8,7 +8,7 @@ ghost use Rattle.o32.specs.declared.Class.the-variants.{Float, Pointer};
 ghost use Rattle.o32.specs.Kinds.{is};
 ghost use Rattle.o32.specs.O32.{O32, full, misplaced, onward, placement, register};
 ghost use Rattle.words.specs.Words.{up};
-ghost use Rattle.o32.specs.Offsets.{ending};
+ghost use Rattle.o32.specs.Offsets.{offset};
 ghost use Rattle.records.specs.Records.{Alignment, Ready, recordOf};
 use o32::Class;
 use o32::Kind;
@@ -32,16 +32,6 @@ fn align_up(alignment: usize, n: usize) -> usize
         4 => (n + 3) / 4 * 4,
         _ => 0,
     }
-}
-
-// Rule 2: where an argument ends, laid behind arguments that end at `end`.
-fn ending_of(kind: Kind, end: usize) -> usize
-    requires { ⌜ Alignment (kind .alignment) ⌝ }
-    requires { ⌜ kind .size ≤ 512 ⌝ }
-    requires { ⌜ end ≤ 1024 ⌝ }
-    ensures { λ r. ⌜ r ≡ ending kind end ⌝ }
-{
-    align_up(kind.alignment, end) + align_up(4, kinds::width_of(kind))
 }
 
 // Rule 3: the floating register of an argument, or 0.
@@ -144,11 +134,13 @@ pub fn place(st: State, kind: Kind) -> Placement
     }
 }
 
-// The state behind a record.
-pub fn state_behind(st: State, kind: Kind) -> State
-    requires { ⌜ Ready st kind ⌝ }
-    ensures { λ r. ⌜ r ≡ onward st kind ⌝ }
+// The state behind a record with this placement.
+pub fn state_behind(st: State, place: Placement) -> State
+    requires { ⌜ Ready st (place .kind) ⌝ }
+    requires { ⌜ place .offset ≡ offset (place .kind) (st .end) ⌝ }
+    ensures { λ r. ⌜ r ≡ onward st (place .kind) ⌝ }
 {
+    let kind = place.kind;
     if kinds::is_class(Class::Marker, kind) {
         return State {
             end: st.end,
@@ -159,7 +151,7 @@ pub fn state_behind(st: State, kind: Kind) -> State
         };
     }
     State {
-        end: ending_of(kind, st.end),
+        end: place.offset + align_up(4, kinds::width_of(kind)),
         count: st.count + 1,
         pointer: has_pointer(st, kind),
         floating: starts_floating(st, kind),
@@ -186,7 +178,8 @@ pub fn take(st: State, byte: u8, bodies: bool, left: usize) -> Record
     if left < body_behind(bodies, kind.size) {
         return Record::Refused(4);
     }
-    let next = state_behind(st, kind);
+    let placed = place(st, kind);
+    let next = state_behind(st, placed);
     if 1024 < next.end {
         return Record::Refused(5);
     }

@@ -16,12 +16,12 @@ use Rattle.o32.specs.declared.Kind.{Kind}
 use Rattle.o32.specs.declared.State.{State}
 use Rattle.o32.specs.declared.Placement.{Placement}
 use Rattle.o32.specs.Kinds.{kindOf}
-use Rattle.o32.specs.Offsets.{extension}
+use Rattle.o32.specs.Offsets.{extension, offset}
 use Rattle.o32.specs.O32.{O32, carriers, onward, placement}
 use Rattle.placement.proofs.Bounds.{plan-bound}
 use Rattle.records.specs.Records.{Ready}
 use Rattle.placement.specs.Fitting.{Fit}
-use Rattle.records.proofs.Ahead.{Ahead, ahead-starts, ahead-ends, ahead-ready, ahead-within, ahead-sized, ahead-fit, Behind, ahead-turn}
+use Rattle.records.proofs.Ahead.{Ahead, ahead-starts, ahead-ends, ahead-ready, ahead-within, ahead-sized, ahead-fit, ahead-placed, Behind, ahead-turn}
 use Rattle.writer.specs.Filling.{Fillable, filled}
 
 -- no accepted list is longer
@@ -55,10 +55,13 @@ module _ (list : List ℕ) (n : ℕ) (final : List ℕ) (st : State) (at : ℕ) 
     pub fill-fit : (m : ℕ) → n ≤ m → Fit p m
     fill-fit = ahead-fit true list n st at (w .ahead) h kd e p g
 
+    pub fill-placed : Ready st (p .kind) × (p .offset ≡ offset (p .kind) (st .end))
+    fill-placed = ahead-placed true list n st at (w .ahead) h kd e p g
+
     pub fill-body : at + 1 + p .kind .size ≤ length list
     fill-body = rw g fill-within
 
-    pub fill-turn : (st′ : State) (img′ : List ℕ) → st′ ≡ onward st kd → img′ ≡ put img (carriers p) (promote (extension (p .kind)) (take (p .kind .size) (drop (at + 1) list)))
+    pub fill-turn : (st′ : State) (img′ : List ℕ) → st′ ≡ onward st (p .kind) → img′ ≡ put img (carriers p) (promote (extension (p .kind)) (take (p .kind .size) (drop (at + 1) list)))
         → Filling list n final st′ (at + 1 + kd .size) img′
     fill-turn st′ img′ o i =
         let k : ℕ = getD list at 0 in

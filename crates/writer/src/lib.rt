@@ -37,7 +37,7 @@ fn fill(list: &[u8], out: &mut [u8], n: usize) -> [u32; 8]
         let changed = block::put_argument(block, out, place, list, body);
         block = changed;
         at = body + kind.size;
-        st = records::state_behind(st, kind);
+        st = records::state_behind(st, place);
     }
     block
 }

@@ -1,13 +1,14 @@
 -- `block::copy` meets its contract: it stores the bytes together from `to` on. The loop's invariant: the first i are stored.
 -- Assumes nothing.
+use native.Mathlib.Omega.{arith}
 use mathlib.Core.Path.{_≡_, refl, ap, _∙_}
 use Prim.Native.Nat.{ℕ, _-_, _≤_}
-use native.Mathlib.Omega.{arith}
 use denote.Ref.{now}
 use lib.ListN.{length, take, drop, length-set}
 use Rattle.carried.specs.Image.{put}
 use Rattle.o32.specs.O32.{run}
-use Rattle.block.proofs.Stores.{store-next}
+use Rattle.block.proofs.Stores.{word-copied, store-next}
+use borrow.Author.Needs.{needs}
 use Rattle.block.proofs.copy.Statement.{statement}
 use Rattle.block.proofs.copy.Tie as tie
 
@@ -16,6 +17,18 @@ Inv-loop out₀ to src at n i₀ out i = (i ≤ n) × (length out ≡ length out
 
 abbrev μ-loop : tie.MeasureT-loop
 μ-loop out₀ to src at n i₀ out i = n - i
+
+word-at-requires : tie.Need-word-at-requires Inv-loop μ-loop
+word-at-requires c κs = omega arith
+
+write-word-requires : tie.Need-write-word-requires Inv-loop μ-loop
+write-word-requires c κs = omega arith
+
+same-length : tie.Need-same-length Inv-loop μ-loop
+same-length c = search needs
+
+returns : tie.Need-returns Inv-loop μ-loop
+returns c = let a = c .before .before .before .before .before .before .before .before .args in word-copied (now (a .out)) (now (a .src)) (a .to) (a .at) (a .n) (c .before .before .before .word-at .result) (c .before .before .before .before .before .if1 .taken) (c .before .before .before .word-at .ensures) (c .before .before .write-word .ensures)
 
 loop-holds : tie.Need-loop-holds Inv-loop μ-loop
 loop-holds c = (omega arith, refl, refl)
@@ -39,20 +52,13 @@ loop-less : tie.Need-loop-less Inv-loop μ-loop
 loop-less c = omega arith
 
 loop-again : tie.Need-loop-again Inv-loop μ-loop
-loop-again c =
-    let a = c .before .before .before .args in
-    let l = c .before .before .loop in
-    (omega arith, simp length-set (l .inv .1), rw (l .inv .2) (store-next (now (a .out)) (now (a .src)) (a .to) (a .at) (l .i) (omega arith)))
+loop-again c = let a = c .before .before .before .before .before .before .args in let l = c .before .before .loop in (omega arith, simp length-set (l .inv .1), rw (l .inv .2) (store-next (now (a .out)) (now (a .src)) (a .to) (a .at) (l .i) (omega arith)))
 
-same-length : tie.Need-same-length Inv-loop μ-loop
-same-length c = c .before .loop .inv .1
+same-length-2 : tie.Need-same-length-2 Inv-loop μ-loop
+same-length-2 c = c .before .loop .inv .1
 
-returns : tie.Need-returns Inv-loop μ-loop
-returns c =
-    let a = c .before .before .args in
-    let l = c .before .loop in
-    let e : l .i ≡ a .n = omega arith in
-    l .inv .2 ∙ ap (λ (k : ℕ). put (now (a .out)) (run (a .to) k) (take k (drop (a .at) (now (a .src))))) e
+returns-2 : tie.Need-returns-2 Inv-loop μ-loop
+returns-2 c = let a = c .before .before .before .before .before .args in let l = c .before .loop in let e : l .i ≡ a .n = omega arith in l .inv .2 ∙ ap (λ (k : ℕ). put (now (a .out)) (run (a .to) k) (take k (drop (a .at) (now (a .src))))) e
 
 pub copy-spec : {M : Type 1} → statement M
 copy-spec =
@@ -60,6 +66,10 @@ copy-spec =
     (tie.spec
     Inv-loop
     μ-loop
+    word-at-requires
+    write-word-requires
+    same-length
+    returns
     loop-holds
     add-out
     shared-slice-read-out
@@ -68,5 +78,5 @@ copy-spec =
     add-i
     loop-less
     loop-again
-    same-length
-    returns)
+    same-length-2
+    returns-2)

@@ -8,7 +8,7 @@ use borrow.Author.Tests.{not-true, not-false}
 use Rattle.carried.specs.Convention.{plan}
 use Rattle.o32.specs.O32.{O32}
 use Rattle.reader.specs.Reading.{improperIn}
-use Rattle.reader.proofs.Passes.{Checking, check-starts, check-ends, check-ready, check-fit, check-stops, check-turn}
+use Rattle.reader.proofs.Passes.{Checking, check-starts, check-ends, check-ready, check-fit, check-placed, check-stops, check-turn}
 use borrow.Author.Needs.{needs}
 use Rattle.reader.proofs.check.Statement.{statement}
 use Rattle.reader.proofs.check.Tie as tie
@@ -44,7 +44,7 @@ add-at : tie.Need-add-at Inv-loop μ-loop
 add-at c = omega arith
 
 state-behind-requires : tie.Need-state-behind-requires Inv-loop μ-loop
-state-behind-requires c κs = search (check-ready, needs)
+state-behind-requires c κs = check-placed (c .before .before .before .before .before .before .before .before .before .before .args .signature .now) (c .before .before .before .before .before .before .before .before .before .before .args .image .now) _ (c .before .before .before .before .before .before .loop .st) (c .before .before .before .before .before .before .loop .at) (c .before .before .before .before .before .before .loop .inv) (c .before .before .before .before .before .loop-test .taken) (c .before .before .before .kind-of .result) (c .before .before .before .kind-of .ensures) _ (c .before .before .place .ensures)
 
 loop-less : tie.Need-loop-less Inv-loop μ-loop
 loop-less c = omega arith

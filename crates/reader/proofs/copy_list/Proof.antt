@@ -8,7 +8,7 @@ use lib.ListN.{length, getD, length-set}
 use Rattle.carried.specs.Convention.{plan}
 use Rattle.o32.specs.O32.{O32}
 use Rattle.reader.specs.Reading.{readingIn}
-use Rattle.reader.proofs.Passes.{Copying, copy-starts, copy-ends, copy-ready, copy-fit, copy-room, copy-within, copy-turn}
+use Rattle.reader.proofs.Passes.{Copying, copy-starts, copy-ends, copy-ready, copy-fit, copy-placed, copy-room, copy-within, copy-turn}
 use borrow.Author.Needs.{needs}
 use Rattle.reader.proofs.copy_list.Statement.{statement}
 use Rattle.reader.proofs.copy_list.Tie as tie
@@ -53,7 +53,7 @@ add-at : tie.Need-add-at Inv-loop μ-loop
 add-at c = omega (arith, c .before .before .before .before .before .before .before .before .before .loop-test .taken)
 
 state-behind-requires : tie.Need-state-behind-requires Inv-loop μ-loop
-state-behind-requires c κs = search (copy-ready, needs)
+state-behind-requires c κs = copy-placed (c .before .before .before .before .before .before .before .before .before .before .before .before .before .before .before .args .signature .now) (c .before .before .before .before .before .before .before .before .before .before .before .before .before .before .before .args .image .now) (c .before .before .before .before .before .before .before .before .before .before .before .before .before .before .before .args .out .now) _ (c .before .before .before .before .before .before .before .before .before .before .loop .st) (c .before .before .before .before .before .before .before .before .before .before .loop .at) (c .before .before .before .before .before .before .before .before .before .before .loop .n) _ (c .before .before .before .before .before .before .before .before .before .before .loop .inv .1) (c .before .before .before .before .before .before .before .before .before .loop-test .taken) (c .before .before .before .before .before .before .before .kind-of .result) (c .before .before .before .before .before .before .before .kind-of .ensures) _ (c .before .before .before .before .before .before .place .ensures)
 
 loop-less : tie.Need-loop-less Inv-loop μ-loop
 loop-less c = omega (arith, c .before .before .before .before .before .before .before .before .before .before .loop-test .taken)

@@ -1,7 +1,10 @@
 -- `state_behind` meets its contract.
 -- Assumes nothing.
 use native.Mathlib.Omega.{arith}
-use Rattle.records.proofs.Answers.{behind-marker, behind-argument, counts}
+use mathlib.Core.Path.{refl}
+use mathlib.Core.Logic.{inl, inr}
+use Rattle.kinds.proofs.Classes.{width-le}
+use Rattle.records.proofs.Answers.{up-small, behind-marker, behind-argument, counts, offset-small}
 use borrow.Author.Needs.{needs}
 use Rattle.records.proofs.state_behind.Statement.{statement}
 use Rattle.records.proofs.state_behind.Tie as tie
@@ -12,11 +15,17 @@ is-class-requires c κs = search needs
 returns : tie.Need-returns
 returns c = search (behind-marker, needs)
 
-ending-of-requires : tie.Need-ending-of-requires
-ending-of-requires c κs = search needs
+width-of-requires : tie.Need-width-of-requires
+width-of-requires c κs = search needs
 
-add-t6 : tie.Need-add-t6
-add-t6 c = omega (arith, counts (c .before .before .before .before .args .st) (c .before .before .before .before .args .kind) (c .before .before .before .is-class .result) (c .before .before .before .is-class .ensures) (c .before .before .if1 .left) (c .before .before .before .before .pre .few))
+align-up-requires : tie.Need-align-up-requires
+align-up-requires c κs = (inr (inl refl), omega (arith, width-le (c .before .before .before .before .args .place .kind) (c .before .before .before .before .pre .0 .small), c .width-of .ensures))
+
+add-t8 : tie.Need-add-t8
+add-t8 c = omega (arith, offset-small (c .before .before .before .before .before .before .args .st) (c .before .before .before .before .before .before .args .place .kind) _ (c .before .before .before .before .before .before .pre .0) (c .before .before .before .before .before .before .pre .1), up-small 4 (c .before .before .width-of .result) (inr (inl refl)), c .before .before .width-of .ensures, c .before .align-up .ensures, width-le (c .before .before .before .before .before .before .args .place .kind) (c .before .before .before .before .before .before .pre .0 .small))
+
+add-t9 : tie.Need-add-t9
+add-t9 c = omega (arith, counts (c .before .before .before .before .before .before .before .args .st) (c .before .before .before .before .before .before .before .args .place .kind) (c .before .before .before .before .before .is-class .result) (c .before .before .before .before .before .is-class .ensures) (c .before .before .before .before .if1 .left) (c .before .before .before .before .before .before .before .pre .0 .few))
 
 has-pointer-requires : tie.Need-has-pointer-requires
 has-pointer-requires c κs = search needs
@@ -25,7 +34,7 @@ starts-floating-requires : tie.Need-starts-floating-requires
 starts-floating-requires c κs = search needs
 
 returns-2 : tie.Need-returns-2
-returns-2 c = search (behind-argument, needs)
+returns-2 c = behind-argument (c .before .before .before .before .before .before .before .before .before .args .st) (c .before .before .before .before .before .before .before .before .before .args .place .kind) (c .before .before .before .before .before .before .before .is-class .result) _ (c .before .before .before .before .before .width-of .result) (c .before .before .before .before .align-up .result) _ _ (c .before .before .before .before .before .before .before .is-class .ensures) (c .before .before .before .before .before .before .if1 .left) (c .before .before .before .before .before .before .before .before .before .pre .1) (c .before .before .before .before .before .width-of .ensures) (c .before .before .before .before .align-up .ensures) (c .before .has-pointer .ensures) (c .starts-floating .ensures)
 
 pub state-behind-spec : {M : Type 1} → statement M
 state-behind-spec =
@@ -33,8 +42,10 @@ state-behind-spec =
     (tie.spec
     is-class-requires
     returns
-    ending-of-requires
-    add-t6
+    width-of-requires
+    align-up-requires
+    add-t8
+    add-t9
     has-pointer-requires
     starts-floating-requires
     returns-2)
