@@ -1,4 +1,4 @@
--- A float stored into the words of its register floatBytes is stored at the image bytes that carry it.
+-- A float stored into the words of its register, or of its pair, is stored at the image bytes that carry it.
 -- Assumes nothing.
 use mathlib.Core.Path.{_≡_, refl, ap, ap₂, _∙_}
 use mathlib.Core.Logic.{_⊎_, inl, inr}

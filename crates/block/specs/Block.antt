@@ -1,6 +1,6 @@
 -- The image as the writer holds it: the register block, and the buffer behind its first 32 bytes.
 use mathlib.Core.List.{List, [], _∷_, _++_}
-use Prim.Native.Nat.{ℕ, _+_}
+use Prim.Native.Nat.{ℕ}
 use lib.ListN.{drop}
 use Rattle.words.specs.Words.{bytesOf}
 

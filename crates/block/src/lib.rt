@@ -43,7 +43,7 @@ pub fn copy(out: &mut [u8], to: usize, src: &[u8], at: usize, n: usize)
     requires { ⌜ (to + n ≤ length (now out)) × (at + n ≤ length (now src)) ⌝ }
     ensures { λ _. ⌜ now (out .exit) ≡ put (now (out .entry)) (run to n) (take n (drop at (now (src .entry)))) ⌝ }
 {
-    if n == 4 { // most arguments are words: one load and one store
+    if n == 4 { // as most arguments are
         words::write_word(out, to, words::word_at(src, at));
         return;
     }

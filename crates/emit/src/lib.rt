@@ -34,7 +34,7 @@ fn word(op: u32, number: u32, offset: u32) -> u32
 
 // The two instructions on pair k, whose save words lie at an offset.
 fn put_pair(out: &mut [u8], at: usize, op: u32, offset: u32, k: u32)
-    requires { ⌜ (op ≤ 0xE7A00000) × (offset ≤ 8188) × (k < 6) × (at + 8 ≤ length (now out)) ⌝ }
+    requires { ⌜ (op ≤ 0xE7A00000) × (offset + 4 ≤ 8192) × (k < 6) × (at + 8 ≤ length (now out)) ⌝ }
     ensures { λ _. ⌜ now (out .exit) ≡ sets (now (out .entry)) at (bytesOfWords ((op + 65536 * (20 + 2 * k) + offset) ∷ (op + 65536 * (21 + 2 * k) + (offset + 4)) ∷ [])) ⌝ }
 {
     let even = word(op, 20 + 2 * k, offset);

@@ -14,7 +14,7 @@ use Rattle.o32.specs.declared.State.{State}
 use Rattle.o32.specs.Kinds.{kindOf}
 use Rattle.o32.specs.O32.{O32, onward, placement}
 use Rattle.placement.proofs.KindFacts.{kind-sound}
-use Rattle.placement.proofs.Bounds.{room, Grown, Grows, grows, one-marker}
+use Rattle.placement.proofs.Bounds.{Grown, Grows, grows, Held, held-starts, held-on, held-place}
 use Rattle.records.specs.declared.Record.{Record}
 use Rattle.records.specs.declared.Record.the-variants as R
 use Rattle.records.specs.Records.{recordOf}
@@ -40,17 +40,13 @@ further-none (M.Accepted m e) = ap (λ (x : ℕ). M.Accepted x e) (omega arith)
 pub record Walking (bodies : Bool) (list : List ℕ) (st : State) (n at : ℕ) : Type 0 where
   pub inside : at ≤ length list
   pub ahead : measured (plan O32 bodies list) ≡ further n (measured (onFrom O32 bodies list at st))
-  pub before : n ≤ room st
-  pub fits : st .end ≤ 1024
-  pub few : st .count ≤ 32
+  pub held : Held n 0 st
 
 pub walk-starts : (bodies : Bool) (list : List ℕ) (st : State) → st ≡ O32 .start → Walking bodies list st 0 0
 walk-starts bodies list st e = record {
   inside = omega arith;
   ahead = rw e (sym (further-none (measured (plan O32 bodies list))));
-  before = omega arith;
-  fits = rw e (omega arith);
-  few = rw e (omega arith);
+  held = rw e held-starts;
 }
 
 pub walk-ends : (bodies : Bool) (list : List ℕ) (st : State) (n at : ℕ) → Walking bodies list st n at → length list ≤ at → M.Accepted n (st .end) ≡ measured (plan O32 bodies list)
@@ -58,7 +54,7 @@ walk-ends bodies list st n at w h =
     sym (w .ahead ∙ ap (λ (q : Plan State). further n (measured q)) (finished O32 bodies list at st (w .inside) h) ∙ ap (λ (x : ℕ). M.Accepted x (st .end)) (omega arith))
 
 pub walk-counts : (bodies : Bool) (list : List ℕ) (st : State) (n at : ℕ) → Walking bodies list st n at → n ≤ 1057
-walk-counts bodies list st n at w = omega (arith, w .before, w .fits, w .few, one-marker (st .marked))
+walk-counts bodies list st n at w = omega (arith, held-place n 0 st (w .held))
 
 module _ (bodies : Bool) (list : List ℕ) (st : State) (n at : ℕ) (w : Walking bodies list st n at) (h : at < length list)
     (t : Record) (e : t ≡ recordOf (taken O32 bodies (length list - (at + 1)) st (getD list at 0))) where
@@ -98,7 +94,5 @@ module _ (bodies : Bool) (list : List ℕ) (st : State) (n at : ℕ) (w : Walkin
             rw (i, here .kind) (w .ahead
             ∙ ap (λ (q : Plan State). further n (measured q)) (passed O32 bodies list at st h (placement st (kindOf k)) (onward st (kindOf k)) (here .placed .whole))
             ∙ further-also n (O32 .placedAt k (placement st (kindOf k))) (onFrom O32 bodies list (at + 1 + behind bodies (kindOf k .size)) (onward st (kindOf k))));
-        before = omega (arith, w .before, grew .more, size-is);
-        fits = here .placed .fits;
-        few = grew .few (w .few);
+        held = held-on (w .held) grew (here .placed .fits) (n + 1 + kd .size) 0 (omega (arith, size-is));
       })

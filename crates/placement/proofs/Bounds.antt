@@ -24,14 +24,14 @@ use Rattle.placement.proofs.Laws.{up-ge}
 -- ---- one step
 
 -- how many bytes of a list can stand before this state
-abbrev pub room : State → ℕ
+abbrev room : State → ℕ
 room st = st .end + st .count + cond (st .marked) 1 0
 
 -- a record that is placed has room for its kind byte and its body
 pub record Grown (st : State) (k : Kind) (p : Placement) (st′ : State) : Type 0 where
-  pub size : p .kind .size ≡ k .size
-  pub more : room st + 1 + k .size ≤ room st′
-  pub few : st .count ≤ 32 → st′ .count ≤ 32
+  size : p .kind .size ≡ k .size
+  more : room st + 1 + k .size ≤ room st′
+  few : st .count ≤ 32 → st′ .count ≤ 32
 
 abbrev pub Grows : State → Kind → Step Placement State → Type 0
 Grows st k (refuse r) = Unit {0}
@@ -86,10 +86,17 @@ module _ (st : State) (k : Kind) (s : Sound k) where
 -- ---- all steps
 
 -- what holds at a byte of a list, with n bytes of a body still to pass
-record Held (at n : ℕ) (st : State) : Type 0 where
+pub record Held (at n : ℕ) (st : State) : Type 0 where
   before : at + n ≤ room st
-  fits : st .end ≤ 1024
+  pub fits : st .end ≤ 1024
   few : st .count ≤ 32
+
+pub held-starts : Held 0 0 (O32 .start)
+held-starts = record { before = omega arith; fits = omega arith; few = omega arith }
+
+-- a record that is placed passes on what holds, to any byte of it and behind it
+pub held-on : {at : ℕ} {st st′ : State} {k : Kind} {p : Placement} → Held at 0 st → Grown st k p st′ → st′ .end ≤ 1024 → (a b : ℕ) → a + b ≤ at + 1 + k .size → Held a b st′
+held-on h g f a b l = record { before = omega (arith, h .before, g .more); fits = f; few = g .few (h .few) }
 
 -- n bytes that are accepted, and the state behind them
 pub record Reached (n : ℕ) (last : State) : Type 0 where
@@ -101,11 +108,11 @@ abbrev Reaches : ℕ → Plan State → Type 0
 Reaches n (bad r p) = p ≤ 1057
 Reaches n (good L last) = Reached n last
 
-pub one-marker : (t : Bool) → cond t 1 0 ≤ 1
+one-marker : (t : Bool) → cond t 1 0 ≤ 1
 one-marker true = omega arith
 one-marker false = omega arith
 
-held-place : (at n : ℕ) (st : State) → Held at n st → at + n ≤ 1057
+pub held-place : (at n : ℕ) (st : State) → Held at n st → at + n ≤ 1057
 held-place at n st h = omega (arith, h .before, h .fits, h .few, one-marker (st .marked))
 
 behind-le : (bodies : Bool) (n : ℕ) → behind bodies n ≤ n
@@ -133,11 +140,7 @@ reaches bodies (k ∷ l) at zero st h = go (O32 .step st k) (grows st (kindOf k)
     fit p st′ g false false f rest = here
     fit p st′ g false true f rest =
         let n : ℕ = behind bodies (p .kind .size) in
-        let w : Held (suc at) n st′ = record {
-          before = omega (arith, h .before, g .more, g .size, behind-le bodies (p .kind .size));
-          fits = leb-true (st′ .end) 1024 f;
-          few = g .few (h .few);
-        } in
+        let w : Held (suc at) n st′ = held-on h g (leb-true (st′ .end) 1024 f) (suc at) n (omega (arith, g .size, behind-le bodies (p .kind .size))) in
         also-reaches (suc at + length l) (at + length (k ∷ l)) (O32 .placedAt k p) (from O32 bodies (suc at) st′ n l) (omega arith) (rest n st′ w)
 
     go : (s : Step Placement State) → Grows st (kindOf k) s
@@ -150,7 +153,7 @@ reaches bodies (k ∷ l) at zero st h = go (O32 .step st k) (grows st (kindOf k)
 
 module _ (bodies : Bool) (l : List ℕ) where
   planned : Reaches (0 + length l) (plan O32 bodies l)
-  planned = reaches bodies l 0 0 (O32 .start) (record { before = omega arith; fits = omega arith; few = omega arith })
+  planned = reaches bodies l 0 0 (O32 .start) held-starts
 
   pub place-bound : (r p : ℕ) → plan O32 bodies l ≡ bad r p → p ≤ 1057
   place-bound r p e = subst (Reaches (0 + length l)) e planned

@@ -23,7 +23,6 @@ use Rattle.placement.proofs.Laws.{up-ge}
 pub record Stepped (st : State) (k : Kind) (p : Placement) (st′ : State) : Type 0 where
   pub at : p ≡ placement st k
   pub on : st′ ≡ onward st k
-  pub known : is Unknown k ≡ false
   pub rightly : misplaced st k ≡ false
   pub few : full st k ≡ false
 
@@ -32,13 +31,13 @@ Says st k (refuse r) = Unit {0}
 Says st k (next p st′) = Stepped st k p st′
 
 pub says : (st : State) (k : Kind) → Says st k (stepped st k)
-says st k = go (is Unknown k) (misplaced st k) (full st k) refl refl refl
+says st k = go (is Unknown k) (misplaced st k) (full st k) refl refl
   where
-    go : (u m f : Bool) → is Unknown k ≡ u → misplaced st k ≡ m → full st k ≡ f → Says st k (cond u (refuse 1) (cond m (refuse 2) (cond f (refuse 3) (next (placement st k) (onward st k)))))
-    go true m f d e g = tt
-    go false true f d e g = tt
-    go false false true d e g = tt
-    go false false false d e g = record { at = refl; on = refl; known = d; rightly = e; few = g }
+    go : (u m f : Bool) → misplaced st k ≡ m → full st k ≡ f → Says st k (cond u (refuse 1) (cond m (refuse 2) (cond f (refuse 3) (next (placement st k) (onward st k)))))
+    go true m f e g = tt
+    go false true f e g = tt
+    go false false true e g = tt
+    go false false false e g = record { at = refl; on = refl; rightly = e; few = g }
 
 pub step-says : (st : State) (k : ℕ) (p : Placement) (st′ : State) → O32 .step st k ≡ next p st′ → Stepped st (kindOf k) p st′
 step-says st k p st′ e = subst (Says st (kindOf k)) e (says st (kindOf k))

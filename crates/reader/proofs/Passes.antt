@@ -16,15 +16,18 @@ use Rattle.o32.specs.declared.Kind.{Kind}
 use Rattle.o32.specs.declared.State.{State}
 use Rattle.o32.specs.declared.Placement.{Placement}
 use Rattle.o32.specs.Kinds.{kindOf}
-use Rattle.o32.specs.Offsets.{extension, offset}
+use Rattle.o32.specs.Offsets.{extension}
 use Rattle.o32.specs.O32.{O32, carriers, onward, placement, run}
-use Rattle.records.specs.Records.{Ready}
-use Rattle.placement.specs.Fitting.{Fit}
 use Rattle.block.proofs.Stores.{put-next}
-use Rattle.records.proofs.Ahead.{Ahead, ahead-starts, ahead-ends, ahead-ready, ahead-sized, ahead-fit, ahead-placed, Behind, ahead-turn}
+use Rattle.records.proofs.Ahead.{Ahead, ahead-starts, ahead-ends, ahead-sized, Behind, ahead-turn}
 use Rattle.reader.specs.declared.Checked.{Checked}
 use Rattle.reader.specs.declared.Checked.the-variants as K
 use Rattle.reader.specs.Reading.{firstImproper, improperIn, readingIn, delivered, Readable}
+
+-- in a signature the next kind stands behind this one
+next-behind : {sig : List ℕ} {m : ℕ} (st : State) (at : ℕ) (w : Ahead false sig m st at) → at < length sig → (kd : Kind) → kd ≡ kindOf (getD sig at 0)
+    → (p : Placement) → p ≡ placement st kd → (st′ : State) → st′ ≡ onward st (p .kind) → Behind false sig m at (w .placed) p st′ (at + 1)
+next-behind {sig = sig} {m = m} st at w h kd e p g st′ o = ahead-turn false sig m st at w h kd e p g st′ o (at + 1) (omega arith)
 
 -- ---- refusal 8
 
@@ -41,37 +44,25 @@ check-ends sig img found st at w h =
     sym (rw e at (w .same))
 
 module _ (sig img : List ℕ) (found : Checked) (st : State) (at : ℕ) (w : Checking sig img found st at) (h : at < length sig)
-    (kd : Kind) (e : kd ≡ kindOf (getD sig at 0)) where
-  pub check-ready : Ready st kd
-  check-ready = ahead-ready false sig (length img) st at (w .ahead) h kd e
+    (kd : Kind) (e : kd ≡ kindOf (getD sig at 0)) (p : Placement) (g : p ≡ placement st kd)
+    (u : Bool) (a : u ≡ proper (extension (p .kind)) (p .kind .size) (gather img (carriers p))) where
+  -- what is found from here on, by this record's test
+  decided : (t : Bool) → u ≡ t → (L : List Placed) → w .ahead .placed ≡ O32 .placedAt (getD sig at 0) p ∷ L → found ≡ cond t (firstImproper (at + 1) L img) (K.Improper at)
+  decided t b L c =
+      w .same
+      ∙ ap (λ (M : List Placed). firstImproper at M img) c
+      ∙ (rw (a, add-one at))
+      ∙ ap (λ (x : Bool). cond x (firstImproper (at + 1) L img) (K.Improper at)) b
 
-  module _ (p : Placement) (g : p ≡ placement st kd) where
-    pub check-fit : Fit p (length img)
-    check-fit = ahead-fit false sig (length img) st at (w .ahead) h kd e p g (length img) (omega arith)
+  pub check-stops : u ≡ false → K.Improper at ≡ found
+  check-stops b =
+      let v : Behind false sig (length img) at (w .ahead .placed) p (onward st (p .kind)) (at + 1) = next-behind st at (w .ahead) h kd e p g (onward st (p .kind)) refl in
+      sym (decided false b (v .rest .placed) (v .split))
 
-    pub check-placed : Ready st (p .kind) × (p .offset ≡ offset (p .kind) (st .end))
-    check-placed = ahead-placed false sig (length img) st at (w .ahead) h kd e p g
-
-    module _ (u : Bool) (a : u ≡ proper (extension (p .kind)) (p .kind .size) (gather img (carriers p))) where
-      -- what is found from here on, by this record's test
-      from-here : (L : List Placed) → w .ahead .placed ≡ O32 .placedAt (getD sig at 0) p ∷ L → found ≡ cond u (firstImproper (at + 1) L img) (K.Improper at)
-      from-here L b = w .same ∙ ap (λ (M : List Placed). firstImproper at M img) b ∙ rw (a, add-one at)
-
-      next-from : (st′ : State) → st′ ≡ onward st (p .kind) → Behind false sig (length img) at (w .ahead .placed) p st′ (at + 1)
-      next-from st′ o = ahead-turn false sig (length img) st at (w .ahead) h kd e p g st′ o (at + 1) (omega arith)
-
-      decided : (t : Bool) → u ≡ t → (L : List Placed) → w .ahead .placed ≡ O32 .placedAt (getD sig at 0) p ∷ L → found ≡ cond t (firstImproper (at + 1) L img) (K.Improper at)
-      decided t b L c = from-here L c ∙ ap (λ (x : Bool). cond x (firstImproper (at + 1) L img) (K.Improper at)) b
-
-      pub check-stops : u ≡ false → K.Improper at ≡ found
-      check-stops b =
-          let v : Behind false sig (length img) at (w .ahead .placed) p (onward st (p .kind)) (at + 1) = next-from (onward st (p .kind)) refl in
-          sym (decided false b (v .rest .placed) (v .split))
-
-      pub check-turn : u ≡ true → (st′ : State) → st′ ≡ onward st (p .kind) → Checking sig img found st′ (at + 1)
-      check-turn b st′ o =
-          let v : Behind false sig (length img) at (w .ahead .placed) p st′ (at + 1) = next-from st′ o in
-          record { ahead = v .rest; same = decided true b (v .rest .placed) (v .split) }
+  pub check-turn : u ≡ true → (st′ : State) → st′ ≡ onward st (p .kind) → Checking sig img found st′ (at + 1)
+  check-turn b st′ o =
+      let v : Behind false sig (length img) at (w .ahead .placed) p st′ (at + 1) = next-behind st at (w .ahead) h kd e p g st′ o in
+      record { ahead = v .rest; same = decided true b (v .rest .placed) (v .split) }
 
 -- ---- the list
 
@@ -112,16 +103,7 @@ copy-ends sig img out₀ final st at n out w h =
 
 module _ (sig img out₀ final : List ℕ) (st : State) (at n : ℕ) (out : List ℕ) (w : Copying sig img out₀ final st at n out) (h : at < length sig)
     (kd : Kind) (e : kd ≡ kindOf (getD sig at 0)) where
-  pub copy-ready : Ready st kd
-  copy-ready = ahead-ready false sig (length img) st at (w .ahead) h kd e
-
   module _ (p : Placement) (g : p ≡ placement st kd) where
-    pub copy-fit : Fit p (length img)
-    copy-fit = ahead-fit false sig (length img) st at (w .ahead) h kd e p g (length img) (omega arith)
-
-    pub copy-placed : Ready st (p .kind) × (p .offset ≡ offset (p .kind) (st .end))
-    copy-placed = ahead-placed false sig (length img) st at (w .ahead) h kd e p g
-
     size-is : p .kind .size ≡ kd .size
     size-is = ap (λ (x : Placement). x .kind .size) g
 
@@ -135,13 +117,10 @@ module _ (sig img out₀ final : List ℕ) (st : State) (at n : ℕ) (out : List
     split-here : (L : List Placed) → w .ahead .placed ≡ O32 .placedAt (getD sig at 0) p ∷ L → (w .first ++ (getD sig at 0 ∷ body-here)) ++ reading L img ≡ final
     split-here L b = append-assoc (w .first) (getD sig at 0 ∷ body-here) (reading L img) ∙ ap (λ (M : List Placed). w .first ++ reading M img) (sym b) ∙ w .whole
 
-    next-copy : (st′ : State) → st′ ≡ onward st (p .kind) → Behind false sig (length img) at (w .ahead .placed) p st′ (at + 1)
-    next-copy st′ o = ahead-turn false sig (length img) st at (w .ahead) h kd e p g st′ o (at + 1) (omega arith)
-
     module _ (room : length final ≤ length out₀) where
       pub copy-room : n + 1 + p .kind .size ≤ length out₀
       copy-room =
-          let v : Behind false sig (length img) at (w .ahead .placed) p (onward st (p .kind)) (at + 1) = next-copy (onward st (p .kind)) refl in
+          let v : Behind false sig (length img) at (w .ahead .placed) p (onward st (p .kind)) (at + 1) = next-behind st at (w .ahead) h kd e p g (onward st (p .kind)) refl in
           let l : length ((w .first ++ (getD sig at 0 ∷ body-here)) ++ reading (v .rest .placed) img) ≡ length final = ap length (split-here (v .rest .placed) (v .split)) in
           omega (arith, l, length-append (w .first ++ (getD sig at 0 ∷ body-here)) (reading (v .rest .placed) img), length-append (w .first) (getD sig at 0 ∷ body-here), w .long, body-long)
 
@@ -152,7 +131,7 @@ module _ (sig img out₀ final : List ℕ) (st : State) (at n : ℕ) (out : List
           → Copying sig img out₀ final st′ (at + 1) (n + 1 + kd .size) out′
       copy-turn st′ o out′ i =
           let k : ℕ = getD sig at 0 in
-          let v : Behind false sig (length img) at (w .ahead .placed) p st′ (at + 1) = next-copy st′ o in
+          let v : Behind false sig (length img) at (w .ahead .placed) p st′ (at + 1) = next-behind st at (w .ahead) h kd e p g st′ o in
           let z : n + 1 + p .kind .size ≡ n + 1 + kd .size = ap (λ (x : ℕ). n + 1 + x) size-is in
           record {
             ahead = v .rest;

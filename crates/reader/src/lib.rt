@@ -23,12 +23,12 @@ fn check(signature: &[u8], image: &[u8]) -> Checked
     let mut at = 0;
     while at < signature.len() {
         let kind = kinds::kind_of(signature[at]);
-        let place = records::place(st, kind);
-        if !fetch::is_proper(image, place) {
+        let placement = records::placement_of(st, kind);
+        if !fetch::is_proper(image, placement) {
             return Checked::Improper(at);
         }
         at += 1;
-        st = records::state_behind(st, place);
+        st = records::state_behind(st, placement);
     }
     Checked::Proper
 }
@@ -44,13 +44,13 @@ fn copy_list(signature: &[u8], image: &[u8], out: &mut [u8])
     let mut n = 0;
     while at < signature.len() {
         let kind = kinds::kind_of(signature[at]);
-        let place = records::place(st, kind);
+        let placement = records::placement_of(st, kind);
         out[n] = signature[at];
         let body = n + 1;
-        fetch::get_body(image, place, out, body);
+        fetch::get_body(image, placement, out, body);
         n = body + kind.size;
         at += 1;
-        st = records::state_behind(st, place);
+        st = records::state_behind(st, placement);
     }
 }
 

@@ -1,4 +1,4 @@
--- A second walk over a list or signature that was accepted: what is still ahead at each record, and that its argument fits the image.
+-- A later walk over a list or signature that was accepted: what is still ahead at each record, and that its argument fits the image.
 -- Assumes nothing.
 use mathlib.Core.Path.{_≡_, refl, sym, ap, _∙_, subst}
 use mathlib.Core.Logic.{_⊎_}

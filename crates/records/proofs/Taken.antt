@@ -23,22 +23,22 @@ pub record Placing (bodies : Bool) (left : ℕ) (st : State) (k : ℕ) : Type 0 
   pub fits : onward st (kindOf k) .end ≤ 1024
   pub few : full st (kindOf k) ≡ false
 
-abbrev Limits : State → ℕ → Step Placement State → Step Placement State → Type 0
-Limits st k s (refuse r) = Unit {0}
-Limits st k s (next p st′) = (s ≡ next p st′) × (leb (st′ .end) 1024 ≡ true)
+abbrev Limits : Step Placement State → Step Placement State → Type 0
+Limits s (refuse r) = Unit {0}
+Limits s (next p st′) = (s ≡ next p st′) × (leb (st′ .end) 1024 ≡ true)
 
-limits : (bodies : Bool) (st : State) (k left : ℕ) (s : Step Placement State) → Limits st k s (limited O32 bodies left k s)
-limits bodies st k left (refuse r) = tt
-limits bodies st k left (next p st′) = go (ltb left (behind bodies (p .kind .size))) (leb (st′ .end) 1024) refl
+limits : (bodies : Bool) (k left : ℕ) (s : Step Placement State) → Limits s (limited O32 bodies left k s)
+limits bodies k left (refuse r) = tt
+limits bodies k left (next p st′) = go (ltb left (behind bodies (p .kind .size))) (leb (st′ .end) 1024) refl
   where
-    go : (t u : Bool) → leb (st′ .end) 1024 ≡ u → Limits st k (next p st′) (cond t (refuse 4) (cond u (next p st′) (refuse 5)))
+    go : (t u : Bool) → leb (st′ .end) 1024 ≡ u → Limits (next p st′) (cond t (refuse 4) (cond u (next p st′) (refuse 5)))
     go true u e = tt
     go false false e = tt
     go false true e = (refl, e)
 
 pub placing : (bodies : Bool) (st : State) (k left : ℕ) (p : Placement) (st′ : State) → taken O32 bodies left st k ≡ next p st′ → Placing bodies left st k
 placing bodies st k left p st′ e =
-    let l : (O32 .step st k ≡ next p st′) × (leb (st′ .end) 1024 ≡ true) = subst (Limits st k (O32 .step st k)) e (limits bodies st k left (O32 .step st k)) in
+    let l : (O32 .step st k ≡ next p st′) × (leb (st′ .end) 1024 ≡ true) = subst (Limits (O32 .step st k)) e (limits bodies k left (O32 .step st k)) in
     let s : Stepped st (kindOf k) p st′ = step-says st k p st′ (l .0) in
     let i : next p st′ ≡ next (placement st (kindOf k)) (onward st (kindOf k)) = rw (s .at, s .on) in
     record {

@@ -123,7 +123,7 @@ pub fn body_behind(bodies: bool, size: usize) -> usize
 }
 
 // The placement of a record.
-pub fn place(st: State, kind: Kind) -> Placement
+pub fn placement_of(st: State, kind: Kind) -> Placement
     requires { ⌜ Ready st kind ⌝ }
     ensures { λ r. ⌜ r ≡ placement st kind ⌝ }
 {
@@ -135,12 +135,12 @@ pub fn place(st: State, kind: Kind) -> Placement
 }
 
 // The state behind a record with this placement.
-pub fn state_behind(st: State, place: Placement) -> State
-    requires { ⌜ Ready st (place .kind) ⌝ }
-    requires { ⌜ place .offset ≡ offset (place .kind) (st .end) ⌝ }
-    ensures { λ r. ⌜ r ≡ onward st (place .kind) ⌝ }
+pub fn state_behind(st: State, placement: Placement) -> State
+    requires { ⌜ Ready st (placement .kind) ⌝ }
+    requires { ⌜ placement .offset ≡ offset (placement .kind) (st .end) ⌝ }
+    ensures { λ r. ⌜ r ≡ onward st (placement .kind) ⌝ }
 {
-    let kind = place.kind;
+    let kind = placement.kind;
     if kinds::is_class(Class::Marker, kind) {
         return State {
             end: st.end,
@@ -151,7 +151,7 @@ pub fn state_behind(st: State, place: Placement) -> State
         };
     }
     State {
-        end: place.offset + align_up(4, kinds::width_of(kind)),
+        end: placement.offset + align_up(4, kinds::width_of(kind)),
         count: st.count + 1,
         pointer: has_pointer(st, kind),
         floating: starts_floating(st, kind),
@@ -178,8 +178,8 @@ pub fn take(st: State, byte: u8, bodies: bool, left: usize) -> Record
     if left < body_behind(bodies, kind.size) {
         return Record::Refused(4);
     }
-    let placed = place(st, kind);
-    let next = state_behind(st, placed);
+    let placement = placement_of(st, kind);
+    let next = state_behind(st, placement);
     if 1024 < next.end {
         return Record::Refused(5);
     }

@@ -16,12 +16,10 @@ use Rattle.o32.specs.declared.Kind.{Kind}
 use Rattle.o32.specs.declared.State.{State}
 use Rattle.o32.specs.declared.Placement.{Placement}
 use Rattle.o32.specs.Kinds.{kindOf}
-use Rattle.o32.specs.Offsets.{extension, offset}
+use Rattle.o32.specs.Offsets.{extension}
 use Rattle.o32.specs.O32.{O32, carriers, onward, placement}
 use Rattle.placement.proofs.Bounds.{plan-bound}
-use Rattle.records.specs.Records.{Ready}
-use Rattle.placement.specs.Fitting.{Fit}
-use Rattle.records.proofs.Ahead.{Ahead, ahead-starts, ahead-ends, ahead-ready, ahead-within, ahead-sized, ahead-fit, ahead-placed, Behind, ahead-turn}
+use Rattle.records.proofs.Ahead.{Ahead, ahead-starts, ahead-ends, ahead-within, ahead-sized, Behind, ahead-turn}
 use Rattle.writer.specs.Filling.{Fillable, filled}
 
 -- no accepted list is longer
@@ -42,9 +40,6 @@ fill-ends list n final st at img w h =
 
 module _ (list : List ℕ) (n : ℕ) (final : List ℕ) (st : State) (at : ℕ) (img : List ℕ) (w : Filling list n final st at img) (h : at < length list)
     (kd : Kind) (e : kd ≡ kindOf (getD list at 0)) where
-  pub fill-ready : Ready st kd
-  fill-ready = ahead-ready true list n st at (w .ahead) h kd e
-
   fill-within : at + 1 + kd .size ≤ length list
   fill-within = ahead-within true list n st at (w .ahead) h kd e
 
@@ -52,12 +47,6 @@ module _ (list : List ℕ) (n : ℕ) (final : List ℕ) (st : State) (at : ℕ) 
   fill-less = omega (arith, fill-within)
 
   module _ (p : Placement) (g : p ≡ placement st kd) where
-    pub fill-fit : (m : ℕ) → n ≤ m → Fit p m
-    fill-fit = ahead-fit true list n st at (w .ahead) h kd e p g
-
-    pub fill-placed : Ready st (p .kind) × (p .offset ≡ offset (p .kind) (st .end))
-    fill-placed = ahead-placed true list n st at (w .ahead) h kd e p g
-
     pub fill-body : at + 1 + p .kind .size ≤ length list
     fill-body = rw g fill-within
 

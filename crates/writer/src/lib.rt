@@ -32,12 +32,12 @@ fn fill(list: &[u8], out: &mut [u8], n: usize) -> [u32; 8]
     let mut at = 0;
     while at < list.len() {
         let kind = kinds::kind_of(list[at]);
-        let place = records::place(st, kind);
+        let placement = records::placement_of(st, kind);
         let body = at + 1;
-        let changed = block::put_argument(block, out, place, list, body);
+        let changed = block::put_argument(block, out, placement, list, body);
         block = changed;
         at = body + kind.size;
-        st = records::state_behind(st, place);
+        st = records::state_behind(st, placement);
     }
     block
 }

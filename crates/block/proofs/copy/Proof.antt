@@ -28,7 +28,10 @@ same-length : tie.Need-same-length Inv-loop μ-loop
 same-length c = search needs
 
 returns : tie.Need-returns Inv-loop μ-loop
-returns c = let a = c .before .before .before .before .before .before .before .before .args in word-copied (now (a .out)) (now (a .src)) (a .to) (a .at) (a .n) (c .before .before .before .word-at .result) (c .before .before .before .before .before .if1 .taken) (c .before .before .before .word-at .ensures) (c .before .before .write-word .ensures)
+returns c =
+    let a = c .before .before .before .before .before .before .before .before .args in
+    word-copied (now (a .out)) (now (a .src)) (a .to) (a .at) (a .n)
+    (c .before .before .before .word-at .result) (c .before .before .before .before .before .if1 .taken) (c .before .before .before .word-at .ensures) (c .before .before .write-word .ensures)
 
 loop-holds : tie.Need-loop-holds Inv-loop μ-loop
 loop-holds c = (omega arith, refl, refl)
@@ -52,13 +55,20 @@ loop-less : tie.Need-loop-less Inv-loop μ-loop
 loop-less c = omega arith
 
 loop-again : tie.Need-loop-again Inv-loop μ-loop
-loop-again c = let a = c .before .before .before .before .before .before .args in let l = c .before .before .loop in (omega arith, simp length-set (l .inv .1), rw (l .inv .2) (store-next (now (a .out)) (now (a .src)) (a .to) (a .at) (l .i) (omega arith)))
+loop-again c =
+    let a = c .before .before .before .before .before .before .args in
+    let l = c .before .before .loop in
+    (omega arith, simp length-set (l .inv .1), rw (l .inv .2) (store-next (now (a .out)) (now (a .src)) (a .to) (a .at) (l .i) (omega arith)))
 
 same-length-2 : tie.Need-same-length-2 Inv-loop μ-loop
 same-length-2 c = c .before .loop .inv .1
 
 returns-2 : tie.Need-returns-2 Inv-loop μ-loop
-returns-2 c = let a = c .before .before .before .before .before .args in let l = c .before .loop in let e : l .i ≡ a .n = omega arith in l .inv .2 ∙ ap (λ (k : ℕ). put (now (a .out)) (run (a .to) k) (take k (drop (a .at) (now (a .src))))) e
+returns-2 c =
+    let a = c .before .before .before .before .before .args in
+    let l = c .before .loop in
+    let e : l .i ≡ a .n = omega arith in
+    l .inv .2 ∙ ap (λ (k : ℕ). put (now (a .out)) (run (a .to) k) (take k (drop (a .at) (now (a .src))))) e
 
 pub copy-spec : {M : Type 1} → statement M
 copy-spec =

@@ -1,5 +1,5 @@
--- `block::put_low` meets its contract. The loop's invariant: the first i bytes are stored into the block, and i is a multiple of 4 as long
--- as four bytes are left.
+-- `block::put_low` meets its contract. The loop's invariant: the first i bytes are stored into the block, and i is a multiple
+-- of 4 as long as four bytes are left.
 -- Assumes nothing.
 use mathlib.Core.Path.{_≡_, refl, ap, _∙_}
 use Prim.Native.Nat.{ℕ, _+_, _-_, _%_, _≤_}

@@ -7,8 +7,9 @@ use lib.ListN.{length}
 use borrow.Author.Tests.{not-true, not-false}
 use Rattle.carried.specs.Convention.{plan}
 use Rattle.o32.specs.O32.{O32}
+use Rattle.records.proofs.Ahead.{ahead-ready, ahead-fit, ahead-placed}
 use Rattle.reader.specs.Reading.{improperIn}
-use Rattle.reader.proofs.Passes.{Checking, check-starts, check-ends, check-ready, check-fit, check-placed, check-stops, check-turn}
+use Rattle.reader.proofs.Passes.{Checking, check-starts, check-ends, check-stops, check-turn}
 use borrow.Author.Needs.{needs}
 use Rattle.reader.proofs.check.Statement.{statement}
 use Rattle.reader.proofs.check.Tie as tie
@@ -31,11 +32,11 @@ shared-slice-read-kind-of c = omega arith
 kind-of-requires : tie.Need-kind-of-requires Inv-loop μ-loop
 kind-of-requires c κs = search needs
 
-place-requires : tie.Need-place-requires Inv-loop μ-loop
-place-requires c κs = search (check-ready, needs)
+placement-of-requires : tie.Need-placement-of-requires Inv-loop μ-loop
+placement-of-requires c κs = ahead-ready false (c .before .before .before .before .before .before .before .args .signature .now) _ (c .before .before .before .loop .st) (c .before .before .before .loop .at) (c .before .before .before .loop .inv .ahead) (c .before .before .loop-test .taken) (c .kind-of .result) (c .kind-of .ensures)
 
 is-proper-requires : tie.Need-is-proper-requires Inv-loop μ-loop
-is-proper-requires c κs = search (check-fit, needs)
+is-proper-requires c κs = ahead-fit false (c .before .before .before .before .before .before .before .before .args .signature .now) _ (c .before .before .before .before .loop .st) (c .before .before .before .before .loop .at) (c .before .before .before .before .loop .inv .ahead) (c .before .before .before .loop-test .taken) (c .before .kind-of .result) (c .before .kind-of .ensures) _ (c .placement-of .ensures) _ (omega arith)
 
 returns : tie.Need-returns Inv-loop μ-loop
 returns c = search (check-stops, not-true, needs)
@@ -44,7 +45,7 @@ add-at : tie.Need-add-at Inv-loop μ-loop
 add-at c = omega arith
 
 state-behind-requires : tie.Need-state-behind-requires Inv-loop μ-loop
-state-behind-requires c κs = check-placed (c .before .before .before .before .before .before .before .before .before .before .args .signature .now) (c .before .before .before .before .before .before .before .before .before .before .args .image .now) _ (c .before .before .before .before .before .before .loop .st) (c .before .before .before .before .before .before .loop .at) (c .before .before .before .before .before .before .loop .inv) (c .before .before .before .before .before .loop-test .taken) (c .before .before .before .kind-of .result) (c .before .before .before .kind-of .ensures) _ (c .before .before .place .ensures)
+state-behind-requires c κs = ahead-placed false (c .before .before .before .before .before .before .before .before .before .before .args .signature .now) _ (c .before .before .before .before .before .before .loop .st) (c .before .before .before .before .before .before .loop .at) (c .before .before .before .before .before .before .loop .inv .ahead) (c .before .before .before .before .before .loop-test .taken) (c .before .before .before .kind-of .result) (c .before .before .before .kind-of .ensures) _ (c .before .before .placement-of .ensures)
 
 loop-less : tie.Need-loop-less Inv-loop μ-loop
 loop-less c = omega arith
@@ -65,7 +66,7 @@ check-spec =
     loop-holds
     shared-slice-read-kind-of
     kind-of-requires
-    place-requires
+    placement-of-requires
     is-proper-requires
     returns
     add-at

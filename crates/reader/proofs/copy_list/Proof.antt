@@ -7,14 +7,16 @@ use Prim.Native.Nat.{_-_}
 use lib.ListN.{length, getD, length-set}
 use Rattle.carried.specs.Convention.{plan}
 use Rattle.o32.specs.O32.{O32}
+use Rattle.records.proofs.Ahead.{ahead-ready, ahead-fit, ahead-placed}
 use Rattle.reader.specs.Reading.{readingIn}
-use Rattle.reader.proofs.Passes.{Copying, copy-starts, copy-ends, copy-ready, copy-fit, copy-placed, copy-room, copy-within, copy-turn}
+use Rattle.reader.proofs.Passes.{Copying, copy-starts, copy-ends, copy-room, copy-within, copy-turn}
 use borrow.Author.Needs.{needs}
 use Rattle.reader.proofs.copy_list.Statement.{statement}
 use Rattle.reader.proofs.copy_list.Tie as tie
 
 abbrev Inv-loop : tie.InvT-loop
-Inv-loop signature image out₀ st₀ at₀ n₀ out st at n = (length out ≡ length out₀) × Copying signature image out₀ (readingIn (plan O32 false signature) image) st at n out
+Inv-loop signature image out₀ st₀ at₀ n₀ out st at n =
+    (length out ≡ length out₀) × Copying signature image out₀ (readingIn (plan O32 false signature) image) st at n out
 
 abbrev μ-loop : tie.MeasureT-loop
 μ-loop signature image out₀ st₀ at₀ n₀ out st at n = length signature - at
@@ -31,35 +33,35 @@ shared-slice-read-kind-of c = omega arith
 kind-of-requires : tie.Need-kind-of-requires Inv-loop μ-loop
 kind-of-requires c κs = search needs
 
-place-requires : tie.Need-place-requires Inv-loop μ-loop
-place-requires c κs = search (copy-ready, needs)
+placement-of-requires : tie.Need-placement-of-requires Inv-loop μ-loop
+placement-of-requires c κs = ahead-ready false (c .before .before .before .before .before .before .before .before .args .signature .now) _ (c .before .before .before .loop .st) (c .before .before .before .loop .at) (c .before .before .before .loop .inv .1 .ahead) (c .before .before .loop-test .taken) (c .kind-of .result) (c .kind-of .ensures)
 
 shared-slice-read-out : tie.Need-shared-slice-read-out Inv-loop μ-loop
 shared-slice-read-out c = omega arith
 
 slice-write-out : tie.Need-slice-write-out Inv-loop μ-loop
-slice-write-out c = omega (arith, copy-room (c .before .before .before .before .before .before .before .before .before .before .args .signature .now) (c .before .before .before .before .before .before .before .before .before .before .args .image .now) (c .before .before .before .before .before .before .before .before .before .before .args .out .now) _ (c .before .before .before .before .before .loop .st) (c .before .before .before .before .before .loop .at) (c .before .before .before .before .before .loop .n) _ (c .before .before .before .before .before .loop .inv .1) (c .before .before .before .before .loop-test .taken) (c .before .before .kind-of .result) (c .before .before .kind-of .ensures) _ (c .before .place .ensures) (c .before .before .before .before .before .before .before .before .before .before .pre .1), c .before .before .before .before .before .loop .inv .0)
+slice-write-out c = omega (arith, copy-room (c .before .before .before .before .before .before .before .before .before .before .args .signature .now) (c .before .before .before .before .before .before .before .before .before .before .args .image .now) (c .before .before .before .before .before .before .before .before .before .before .args .out .now) _ (c .before .before .before .before .before .loop .st) (c .before .before .before .before .before .loop .at) (c .before .before .before .before .before .loop .n) _ (c .before .before .before .before .before .loop .inv .1) (c .before .before .before .before .loop-test .taken) (c .before .before .kind-of .result) (c .before .before .kind-of .ensures) _ (c .before .placement-of .ensures) (c .before .before .before .before .before .before .before .before .before .before .pre .1), c .before .before .before .before .before .loop .inv .0)
 
 add-body : tie.Need-add-body Inv-loop μ-loop
-add-body c = omega (arith, copy-room (c .before .before .before .before .before .before .before .before .before .before .args .signature .now) (c .before .before .before .before .before .before .before .before .before .before .args .image .now) (c .before .before .before .before .before .before .before .before .before .before .args .out .now) _ (c .before .before .before .before .before .loop .st) (c .before .before .before .before .before .loop .at) (c .before .before .before .before .before .loop .n) _ (c .before .before .before .before .before .loop .inv .1) (c .before .before .before .before .loop-test .taken) (c .before .before .kind-of .result) (c .before .before .kind-of .ensures) _ (c .before .place .ensures) (c .before .before .before .before .before .before .before .before .before .before .pre .1), c .before .before .before .before .before .loop .inv .0)
+add-body c = omega (arith, copy-room (c .before .before .before .before .before .before .before .before .before .before .args .signature .now) (c .before .before .before .before .before .before .before .before .before .before .args .image .now) (c .before .before .before .before .before .before .before .before .before .before .args .out .now) _ (c .before .before .before .before .before .loop .st) (c .before .before .before .before .before .loop .at) (c .before .before .before .before .before .loop .n) _ (c .before .before .before .before .before .loop .inv .1) (c .before .before .before .before .loop-test .taken) (c .before .before .kind-of .result) (c .before .before .kind-of .ensures) _ (c .before .placement-of .ensures) (c .before .before .before .before .before .before .before .before .before .before .pre .1), c .before .before .before .before .before .loop .inv .0)
 
 get-body-requires : tie.Need-get-body-requires Inv-loop μ-loop
-get-body-requires c κs = (search (copy-fit, needs), rw length-set (omega (arith, copy-room (c .before .before .before .before .before .before .before .before .before .before .before .args .signature .now) (c .before .before .before .before .before .before .before .before .before .before .before .args .image .now) (c .before .before .before .before .before .before .before .before .before .before .before .args .out .now) _ (c .before .before .before .before .before .before .loop .st) (c .before .before .before .before .before .before .loop .at) (c .before .before .before .before .before .before .loop .n) _ (c .before .before .before .before .before .before .loop .inv .1) (c .before .before .before .before .before .loop-test .taken) (c .before .before .before .kind-of .result) (c .before .before .before .kind-of .ensures) _ (c .before .before .place .ensures) (c .before .before .before .before .before .before .before .before .before .before .before .pre .1), c .before .before .before .before .before .before .loop .inv .0)))
+get-body-requires c κs = (ahead-fit false (c .before .before .before .before .before .before .before .before .before .before .before .args .signature .now) _ (c .before .before .before .before .before .before .loop .st) (c .before .before .before .before .before .before .loop .at) (c .before .before .before .before .before .before .loop .inv .1 .ahead) (c .before .before .before .before .before .loop-test .taken) (c .before .before .before .kind-of .result) (c .before .before .before .kind-of .ensures) _ (c .before .before .placement-of .ensures) _ (omega arith), rw length-set (omega (arith, copy-room (c .before .before .before .before .before .before .before .before .before .before .before .args .signature .now) (c .before .before .before .before .before .before .before .before .before .before .before .args .image .now) (c .before .before .before .before .before .before .before .before .before .before .before .args .out .now) _ (c .before .before .before .before .before .before .loop .st) (c .before .before .before .before .before .before .loop .at) (c .before .before .before .before .before .before .loop .n) _ (c .before .before .before .before .before .before .loop .inv .1) (c .before .before .before .before .before .loop-test .taken) (c .before .before .before .kind-of .result) (c .before .before .before .kind-of .ensures) _ (c .before .before .placement-of .ensures) (c .before .before .before .before .before .before .before .before .before .before .before .pre .1), c .before .before .before .before .before .before .loop .inv .0)))
 
 add-n : tie.Need-add-n Inv-loop μ-loop
-add-n c = omega (arith, copy-within (c .before .before .before .before .before .before .before .before .before .before .before .before .before .before .before .args .signature .now) (c .before .before .before .before .before .before .before .before .before .before .before .before .before .before .before .args .image .now) (c .before .before .before .before .before .before .before .before .before .before .before .before .before .before .before .args .out .now) _ (c .before .before .before .before .before .before .before .before .before .before .loop .st) (c .before .before .before .before .before .before .before .before .before .before .loop .at) (c .before .before .before .before .before .before .before .before .before .before .loop .n) _ (c .before .before .before .before .before .before .before .before .before .before .loop .inv .1) (c .before .before .before .before .before .before .before .before .before .loop-test .taken) (c .before .before .before .before .before .before .before .kind-of .result) (c .before .before .before .before .before .before .before .kind-of .ensures) _ (c .before .before .before .before .before .before .place .ensures) (c .before .before .before .before .before .before .before .before .before .before .before .before .before .before .before .pre .1), c .before .before .before .before .before .before .before .before .before .before .before .before .before .before .before .good)
+add-n c = omega (arith, copy-within (c .before .before .before .before .before .before .before .before .before .before .before .before .before .before .before .args .signature .now) (c .before .before .before .before .before .before .before .before .before .before .before .before .before .before .before .args .image .now) (c .before .before .before .before .before .before .before .before .before .before .before .before .before .before .before .args .out .now) _ (c .before .before .before .before .before .before .before .before .before .before .loop .st) (c .before .before .before .before .before .before .before .before .before .before .loop .at) (c .before .before .before .before .before .before .before .before .before .before .loop .n) _ (c .before .before .before .before .before .before .before .before .before .before .loop .inv .1) (c .before .before .before .before .before .before .before .before .before .loop-test .taken) (c .before .before .before .before .before .before .before .kind-of .result) (c .before .before .before .before .before .before .before .kind-of .ensures) _ (c .before .before .before .before .before .before .placement-of .ensures) (c .before .before .before .before .before .before .before .before .before .before .before .before .before .before .before .pre .1), c .before .before .before .before .before .before .before .before .before .before .before .before .before .before .before .good)
 
 add-at : tie.Need-add-at Inv-loop μ-loop
 add-at c = omega (arith, c .before .before .before .before .before .before .before .before .before .loop-test .taken)
 
 state-behind-requires : tie.Need-state-behind-requires Inv-loop μ-loop
-state-behind-requires c κs = copy-placed (c .before .before .before .before .before .before .before .before .before .before .before .before .before .before .before .args .signature .now) (c .before .before .before .before .before .before .before .before .before .before .before .before .before .before .before .args .image .now) (c .before .before .before .before .before .before .before .before .before .before .before .before .before .before .before .args .out .now) _ (c .before .before .before .before .before .before .before .before .before .before .loop .st) (c .before .before .before .before .before .before .before .before .before .before .loop .at) (c .before .before .before .before .before .before .before .before .before .before .loop .n) _ (c .before .before .before .before .before .before .before .before .before .before .loop .inv .1) (c .before .before .before .before .before .before .before .before .before .loop-test .taken) (c .before .before .before .before .before .before .before .kind-of .result) (c .before .before .before .before .before .before .before .kind-of .ensures) _ (c .before .before .before .before .before .before .place .ensures)
+state-behind-requires c κs = ahead-placed false (c .before .before .before .before .before .before .before .before .before .before .before .before .before .before .before .args .signature .now) _ (c .before .before .before .before .before .before .before .before .before .before .loop .st) (c .before .before .before .before .before .before .before .before .before .before .loop .at) (c .before .before .before .before .before .before .before .before .before .before .loop .inv .1 .ahead) (c .before .before .before .before .before .before .before .before .before .loop-test .taken) (c .before .before .before .before .before .before .before .kind-of .result) (c .before .before .before .before .before .before .before .kind-of .ensures) _ (c .before .before .before .before .before .before .placement-of .ensures)
 
 loop-less : tie.Need-loop-less Inv-loop μ-loop
 loop-less c = omega (arith, c .before .before .before .before .before .before .before .before .before .before .loop-test .taken)
 
 loop-again : tie.Need-loop-again Inv-loop μ-loop
-loop-again c = (c .before .before .before .before .get-body .kept .1 .1 .0 ∙ length-set (c .before .before .before .before .before .before .before .before .before .before .before .loop .out) (c .before .before .before .before .before .before .before .before .before .before .before .loop .n) (getD (c .before .before .before .before .before .before .before .before .before .before .before .before .before .before .before .before .args .signature .now) (c .before .before .before .before .before .before .before .before .before .before .before .loop .at) 0) ∙ c .before .before .before .before .before .before .before .before .before .before .before .loop .inv .0, copy-turn (c .before .before .before .before .before .before .before .before .before .before .before .before .before .before .before .before .args .signature .now) (c .before .before .before .before .before .before .before .before .before .before .before .before .before .before .before .before .args .image .now) (c .before .before .before .before .before .before .before .before .before .before .before .before .before .before .before .before .args .out .now) _ (c .before .before .before .before .before .before .before .before .before .before .before .loop .st) (c .before .before .before .before .before .before .before .before .before .before .before .loop .at) (c .before .before .before .before .before .before .before .before .before .before .before .loop .n) _ (c .before .before .before .before .before .before .before .before .before .before .before .loop .inv .1) (c .before .before .before .before .before .before .before .before .before .before .loop-test .taken) (c .before .before .before .before .before .before .before .before .kind-of .result) (c .before .before .before .before .before .before .before .before .kind-of .ensures) _ (c .before .before .before .before .before .before .before .place .ensures) (c .before .before .before .before .before .before .before .before .before .before .before .before .before .before .before .before .pre .1) _ (c .state-behind .ensures) _ (c .before .before .before .before .get-body .ensures))
+loop-again c = (c .before .before .before .before .get-body .kept .1 .1 .0 ∙ length-set (c .before .before .before .before .before .before .before .before .before .before .before .loop .out) (c .before .before .before .before .before .before .before .before .before .before .before .loop .n) (getD (c .before .before .before .before .before .before .before .before .before .before .before .before .before .before .before .before .args .signature .now) (c .before .before .before .before .before .before .before .before .before .before .before .loop .at) 0) ∙ c .before .before .before .before .before .before .before .before .before .before .before .loop .inv .0, copy-turn (c .before .before .before .before .before .before .before .before .before .before .before .before .before .before .before .before .args .signature .now) (c .before .before .before .before .before .before .before .before .before .before .before .before .before .before .before .before .args .image .now) (c .before .before .before .before .before .before .before .before .before .before .before .before .before .before .before .before .args .out .now) _ (c .before .before .before .before .before .before .before .before .before .before .before .loop .st) (c .before .before .before .before .before .before .before .before .before .before .before .loop .at) (c .before .before .before .before .before .before .before .before .before .before .before .loop .n) _ (c .before .before .before .before .before .before .before .before .before .before .before .loop .inv .1) (c .before .before .before .before .before .before .before .before .before .before .loop-test .taken) (c .before .before .before .before .before .before .before .before .kind-of .result) (c .before .before .before .before .before .before .before .before .kind-of .ensures) _ (c .before .before .before .before .before .before .before .placement-of .ensures) (c .before .before .before .before .before .before .before .before .before .before .before .before .before .before .before .before .pre .1) _ (c .state-behind .ensures) _ (c .before .before .before .before .get-body .ensures))
 
 same-length : tie.Need-same-length Inv-loop μ-loop
 same-length c = c .before .loop .inv .0
@@ -77,7 +79,7 @@ copy-list-spec =
     loop-holds
     shared-slice-read-kind-of
     kind-of-requires
-    place-requires
+    placement-of-requires
     shared-slice-read-out
     slice-write-out
     add-body

@@ -8,14 +8,16 @@ use lib.ListN.{length, replicate}
 use Rattle.carried.specs.Convention.{plan}
 use Rattle.o32.specs.O32.{O32}
 use Rattle.block.specs.Block.{whole}
+use Rattle.records.proofs.Ahead.{ahead-ready, ahead-fit, ahead-placed}
 use Rattle.writer.specs.Filling.{filled}
-use Rattle.writer.proofs.Filling.{Filling, fill-starts, fill-ends, fill-ready, fill-long, fill-less, fill-fit, fill-placed, fill-body, fill-turn}
+use Rattle.writer.proofs.Filling.{Filling, fill-starts, fill-ends, fill-long, fill-less, fill-body, fill-turn}
 use borrow.Author.Needs.{needs}
 use Rattle.writer.proofs.fill.Statement.{statement}
 use Rattle.writer.proofs.fill.Tie as tie
 
 abbrev Inv-loop : tie.InvT-loop
-Inv-loop list out₀ n block₀ st₀ at₀ out block st at = (length out ≡ length out₀) × Filling list n (filled (plan O32 true list) list (whole (replicate 8 0) out₀)) st at (whole block out)
+Inv-loop list out₀ n block₀ st₀ at₀ out block st at =
+    (length out ≡ length out₀) × Filling list n (filled (plan O32 true list) list (whole (replicate 8 0) out₀)) st at (whole block out)
 
 abbrev μ-loop : tie.MeasureT-loop
 μ-loop list out₀ n block₀ st₀ at₀ out block st at = length list - at
@@ -32,26 +34,26 @@ shared-slice-read-kind-of c = omega arith
 kind-of-requires : tie.Need-kind-of-requires Inv-loop μ-loop
 kind-of-requires c κs = search needs
 
-place-requires : tie.Need-place-requires Inv-loop μ-loop
-place-requires c κs = fill-ready (c .before .before .before .before .before .before .before .args .list .now) (c .before .before .before .before .before .before .before .args .n) _ (c .before .before .before .loop .st) (c .before .before .before .loop .at) _ (c .before .before .before .loop .inv .1) (omega arith) (c .kind-of .result) (c .kind-of .ensures)
+placement-of-requires : tie.Need-placement-of-requires Inv-loop μ-loop
+placement-of-requires c κs = ahead-ready true (c .before .before .before .before .before .before .before .args .list .now) (c .before .before .before .before .before .before .before .args .n) (c .before .before .before .loop .st) (c .before .before .before .loop .at) (c .before .before .before .loop .inv .1 .ahead) (omega arith) (c .kind-of .result) (c .kind-of .ensures)
 
 add-body : tie.Need-add-body Inv-loop μ-loop
 add-body c = omega arith
 
 put-argument-requires : tie.Need-put-argument-requires Inv-loop μ-loop
-put-argument-requires c κs = (fill-fit (c .before .before .before .before .before .before .before .before .before .args .list .now) (c .before .before .before .before .before .before .before .before .before .args .n) _ (c .before .before .before .before .before .loop .st) (c .before .before .before .before .before .loop .at) _ (c .before .before .before .before .before .loop .inv .1) (omega arith) (c .before .before .kind-of .result) (c .before .before .kind-of .ensures) _ (c .before .place .ensures) _ (omega (arith, c .before .before .before .before .before .loop .inv .0)), search (fill-body, needs))
+put-argument-requires c κs = (ahead-fit true (c .before .before .before .before .before .before .before .before .before .args .list .now) (c .before .before .before .before .before .before .before .before .before .args .n) (c .before .before .before .before .before .loop .st) (c .before .before .before .before .before .loop .at) (c .before .before .before .before .before .loop .inv .1 .ahead) (omega arith) (c .before .before .kind-of .result) (c .before .before .kind-of .ensures) _ (c .before .placement-of .ensures) _ (omega (arith, c .before .before .before .before .before .loop .inv .0)), search (fill-body, needs))
 
 add-at : tie.Need-add-at Inv-loop μ-loop
-add-at c = omega (arith, fill-long (c .before .before .before .before .before .before .before .before .before .before .before .before .before .args .list .now) _ (c .before .before .before .before .before .before .before .before .before .before .before .before .before .pre .0), fill-ready (c .before .before .before .before .before .before .before .before .before .before .before .before .before .args .list .now) (c .before .before .before .before .before .before .before .before .before .before .before .before .before .args .n) _ (c .before .before .before .before .before .before .before .before .before .loop .st) (c .before .before .before .before .before .before .before .before .before .loop .at) _ (c .before .before .before .before .before .before .before .before .before .loop .inv .1) (omega arith) (c .before .before .before .before .before .before .kind-of .result) (c .before .before .before .before .before .before .kind-of .ensures) .small)
+add-at c = omega (arith, fill-long (c .before .before .before .before .before .before .before .before .before .before .before .before .before .args .list .now) _ (c .before .before .before .before .before .before .before .before .before .before .before .before .before .pre .0), ahead-ready true (c .before .before .before .before .before .before .before .before .before .before .before .before .before .args .list .now) (c .before .before .before .before .before .before .before .before .before .before .before .before .before .args .n) (c .before .before .before .before .before .before .before .before .before .loop .st) (c .before .before .before .before .before .before .before .before .before .loop .at) (c .before .before .before .before .before .before .before .before .before .loop .inv .1 .ahead) (omega arith) (c .before .before .before .before .before .before .kind-of .result) (c .before .before .before .before .before .before .kind-of .ensures) .small)
 
 state-behind-requires : tie.Need-state-behind-requires Inv-loop μ-loop
-state-behind-requires c κs = fill-placed (c .before .before .before .before .before .before .before .before .before .before .before .before .before .args .list .now) (c .before .before .before .before .before .before .before .before .before .before .before .before .before .args .n) _ (c .before .before .before .before .before .before .before .before .before .loop .st) (c .before .before .before .before .before .before .before .before .before .loop .at) _ (c .before .before .before .before .before .before .before .before .before .loop .inv .1) (omega arith) (c .before .before .before .before .before .before .kind-of .result) (c .before .before .before .before .before .before .kind-of .ensures) _ (c .before .before .before .before .before .place .ensures)
+state-behind-requires c κs = ahead-placed true (c .before .before .before .before .before .before .before .before .before .before .before .before .before .args .list .now) (c .before .before .before .before .before .before .before .before .before .before .before .before .before .args .n) (c .before .before .before .before .before .before .before .before .before .loop .st) (c .before .before .before .before .before .before .before .before .before .loop .at) (c .before .before .before .before .before .before .before .before .before .loop .inv .1 .ahead) (omega arith) (c .before .before .before .before .before .before .kind-of .result) (c .before .before .before .before .before .before .kind-of .ensures) _ (c .before .before .before .before .before .placement-of .ensures)
 
 loop-less : tie.Need-loop-less Inv-loop μ-loop
 loop-less c = search (fill-less, needs)
 
 loop-again : tie.Need-loop-again Inv-loop μ-loop
-loop-again c = (search needs, fill-turn (c .before .before .before .before .before .before .before .before .before .before .before .before .before .before .args .list .now) (c .before .before .before .before .before .before .before .before .before .before .before .before .before .before .args .n) _ (c .before .before .before .before .before .before .before .before .before .before .loop .st) (c .before .before .before .before .before .before .before .before .before .before .loop .at) _ (c .before .before .before .before .before .before .before .before .before .before .loop .inv .1) (omega arith) (c .before .before .before .before .before .before .before .kind-of .result) (c .before .before .before .before .before .before .before .kind-of .ensures) _ (c .before .before .before .before .before .before .place .ensures) _ _ (c .state-behind .ensures) (c .before .before .before .before .put-argument .ensures))
+loop-again c = (search needs, fill-turn (c .before .before .before .before .before .before .before .before .before .before .before .before .before .before .args .list .now) (c .before .before .before .before .before .before .before .before .before .before .before .before .before .before .args .n) _ (c .before .before .before .before .before .before .before .before .before .before .loop .st) (c .before .before .before .before .before .before .before .before .before .before .loop .at) _ (c .before .before .before .before .before .before .before .before .before .before .loop .inv .1) (omega arith) (c .before .before .before .before .before .before .before .kind-of .result) (c .before .before .before .before .before .before .before .kind-of .ensures) _ (c .before .before .before .before .before .before .placement-of .ensures) _ _ (c .state-behind .ensures) (c .before .before .before .before .put-argument .ensures))
 
 same-length : tie.Need-same-length Inv-loop μ-loop
 same-length c = c .before .loop .inv .0
@@ -69,7 +71,7 @@ fill-spec =
     loop-holds
     shared-slice-read-kind-of
     kind-of-requires
-    place-requires
+    placement-of-requires
     add-body
     put-argument-requires
     add-at
