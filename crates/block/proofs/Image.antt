@@ -10,7 +10,10 @@ use lib.ListN.{length, getD, set, take, drop, length-drop}
 use lib.Seq.{length-take-le, take-suc, drop-drop}
 use Rattle.words.specs.Words.{bytesOf}
 use Rattle.carried.specs.Image.{put}
+use Rattle.carried.specs.Demand.{In}
+use Rattle.carried.proofs.Places as Places
 use Rattle.o32.specs.O32.{run, carrier}
+use Rattle.placement.proofs.Laws.{run-at}
 use Rattle.block.specs.Block.{blockBytes, whole}
 use Rattle.block.proofs.Stores.{put-left, put-right, put-behind, put-next, store-behind}
 use Rattle.block.proofs.Spans.{span-low, span-high, span-split}
@@ -70,8 +73,8 @@ module _ (block : List ℕ) (words : length block ≡ 8) where
   long = length-block block ∙ rw words
 
   -- into the block
-  pub whole-low : (r out : List ℕ) (n o : ℕ) (vs : List ℕ) → o + n ≤ 32 → blockBytes r ≡ put (blockBytes block) (run o n) vs → whole r out ≡ put (whole block out) (run o n) vs
-  whole-low r out n o vs h e = rw e (sym (put-left n o (blockBytes block) (drop 32 out) vs (rw long h)))
+  pub whole-low : (r out ps vs : List ℕ) → ((p : ℕ) → In p ps → p < 32) → blockBytes r ≡ put (blockBytes block) ps vs → whole r out ≡ put (whole block out) ps vs
+  whole-low r out ps vs h e = rw e (sym (Places.put-left (blockBytes block) (drop 32 out) ps vs (rw long h)))
 
   -- into the buffer
   whole-high : (out : List ℕ) (n o : ℕ) (vs : List ℕ) → whole block (put out (run (32 + o) n) vs) ≡ put (whole block out) (run (32 + o) n) vs
@@ -80,7 +83,7 @@ module _ (block : List ℕ) (words : length block ≡ 8) where
   -- n bytes from offset o on, which all lie in the block, or all in the buffer
   pub laid-low : (r out : List ℕ) (n o : ℕ) (vs : List ℕ) → o + n ≤ 16 → blockBytes r ≡ put (blockBytes block) (run o n) vs
       → whole r out ≡ put (whole block out) (map carrier (run o n)) vs
-  laid-low r out n o vs h e = rw (span-low n o h) (whole-low r out n o vs (omega arith) e)
+  laid-low r out n o vs h e = rw (span-low n o h) (whole-low r out (run o n) vs (λ p m. omega (arith, run-at n o p m)) e)
 
   pub laid-high : (out out′ : List ℕ) (n o : ℕ) (vs : List ℕ) → 16 ≤ o → out′ ≡ put out (run (32 + o) n) vs
       → whole block out′ ≡ put (whole block out) (map carrier (run o n)) vs
@@ -100,6 +103,6 @@ laid-split block r out out′ src n o at k l h g f d e =
     let count : m + (n - m) ≡ n = omega arith in
     ap (whole r) e
     ∙ whole-high r l out (n - m) 16 (take (n - m) (drop (at + m) src))
-    ∙ ap (λ (x : List ℕ). put x (run 48 (n - m)) (take (n - m) (drop (at + m) src))) (whole-low block k r out m o (take m (drop at src)) (omega arith) d)
+    ∙ ap (λ (x : List ℕ). put x (run 48 (n - m)) (take (n - m) (drop (at + m) src))) (whole-low block k r out (run o m) (take m (drop at src)) (λ p i. omega (arith, run-at m o p i)) d)
     ∙ store-behind (whole block out) src m (n - m) o 48 at (omega arith)
     ∙ ap₂ (λ (ps : List ℕ) (k : ℕ). put (whole block out) ps (take k (drop at src))) (sym (span-split n o h g)) count

@@ -104,18 +104,22 @@ fn put_word(block: [u32; 8], out: &mut [u8], o: usize, w: u32) -> [u32; 8]
     block
 }
 
-// A float into the words of its register, and of the next one where it is a double.
+// A float into the word of its register, or a double into those of its pair.
 fn put_float(block: [u32; 8], register: usize, src: &[u8], at: usize, size: usize) -> [u32; 8]
     requires { ⌜ Floating register size ⌝ }
     requires { ⌜ at + size ≤ length (now src) ⌝ }
     ensures { λ r. ⌜ blockBytes r ≡ put (blockBytes block) (floatBytes register size) (take size (drop at (now (src .entry)))) ⌝ }
 {
     let i = register - 8;
+    let first = words::word_at(src, at);
     let mut next = block;
-    next[i] = words::word_at(src, at);
     if size == 8 {
-        next[i + 1] = words::word_at(src, at + 4);
+        let second = words::word_at(src, at + 4);
+        next[i + 1] = first; // the high half, in the odd register
+        next[i] = second; // the low half, in the even one
+        return next;
     }
+    next[i] = first;
     next
 }
 

@@ -4,7 +4,7 @@ use mathlib.Core.Path.{_≡_, refl, sym, _∙_}
 use mathlib.Core.Logic.{_⊎_, inl, inr}
 use mathlib.Core.List.{List, map}
 use mathlib.Core.Bool.{Bool, true, false, _||_}
-use Prim.Native.Nat.{ℕ, _+_, _-_, _*_, _≤_, _<_}
+use Prim.Native.Nat.{ℕ, _+_, _-_, _≤_, _<_}
 use native.Mathlib.Omega.{arith}
 use lib.Dec.{eqb, ltb}
 use lib.ListN.{length, take, drop}
@@ -17,12 +17,12 @@ use Rattle.o32.specs.declared.Kind.{Kind}
 use Rattle.o32.specs.declared.Placement.{Placement}
 use Rattle.o32.specs.Kinds.{is, classNumber}
 use Rattle.o32.specs.Offsets.{extension, width}
-use Rattle.o32.specs.O32.{run, carrier, carriers}
+use Rattle.o32.specs.O32.{run, floatBytes, carrier, carriers}
 use Rattle.placement.proofs.Laws.{length-span, length-float}
-use Rattle.placement.specs.Fitting.{Fit}
-use Rattle.block.proofs.Floats.{bounds, float-run}
+use Rattle.placement.specs.Fitting.{Fit, Floating}
+use Rattle.block.proofs.Floats.{bounds}
 use Rattle.block.proofs.Arguments.{Worded, Plain, body-fits}
-use Rattle.fetch.proofs.Parts.{gather-run, gather-word, body-whole, body-part, proper-whole}
+use Rattle.fetch.proofs.Parts.{gather-word, body-whole, body-part, proper-whole}
 
 -- a float's bytes stay as they are
 float-width : (k : Kind) → is Float k ≡ true → width k ≡ k .size
@@ -78,15 +78,11 @@ module _ (p : Placement) (img : List ℕ) (fit : Fit p (length img)) where
   whole w = body-whole (p .kind .size) (gather img (carriers p)) (long ∙ w)
 
   module _ (z : p .register ≡ 0 → ⊥) where
-    pub float-end : (32 ≤ 4 * p .register) × (4 * p .register - 32 + p .kind .size ≤ 32)
-    float-end = omega (arith, bounds (fit .floating (omega arith) .1))
+    pub float-fits : Floating (p .register) (p .kind .size)
+    float-fits = fit .floating (omega arith) .1
 
-    pub float-body : body (p .kind .size) (gather img (carriers p)) ≡ take (p .kind .size) (drop (4 * p .register - 32) img)
-    float-body =
-        let f = fit .floating (omega arith) in
-        let at : 4 * (p .register - 8) ≡ 4 * p .register - 32 = omega arith in
-        whole (float-width (p .kind) (f .0))
-        ∙ rw (ne-eqb (p .register) 0 z, float-run (f .1), at) (gather-run img (p .kind .size) (4 * p .register - 32) (omega (arith, float-end, fit .area)))
+    pub float-body : body (p .kind .size) (gather img (carriers p)) ≡ gather img (floatBytes (p .register) (p .kind .size))
+    float-body = whole (float-width (p .kind) (fit .floating (omega arith) .0)) ∙ rw (ne-eqb (p .register) 0 z)
 
   module _ (q v : ℕ) (at : q ≡ carrier (p .offset)) (e : v ≡ width (p .kind)) (h : p .kind .size < v) where
     wide : width (p .kind) ≡ 4

@@ -2,9 +2,9 @@
 -- nothing to is proper.
 -- Assumes nothing.
 use mathlib.Core.Path.{_≡_, refl, sym, ap, ap₂, _∙_}
-use mathlib.Core.List.{List, _++_, map}
+use mathlib.Core.List.{List, [], _∷_, _++_, map}
 use mathlib.Core.Bool.{Bool, true, false}
-use Prim.Native.Nat.{ℕ, zero, suc, _+_, _-_, _%_, _≤_}
+use Prim.Native.Nat.{ℕ, zero, suc, _+_, _-_, _*_, _%_, _≤_}
 use native.Mathlib.Omega.{arith}
 use native.Mathlib.Nat.{sub-add-cancel}
 use lib.Dec.{ltb}
@@ -16,7 +16,7 @@ use Rattle.words.specs.Words.{zeros, body, same, proper}
 use Rattle.words.proofs.Bytes.{same-refl}
 use Rattle.carried.specs.Image.{gather, put}
 use Rattle.carried.proofs.Places.{gather-append, put-append}
-use Rattle.o32.specs.O32.{run, carrier}
+use Rattle.o32.specs.O32.{run, registerBytes, carrier}
 use Rattle.placement.proofs.Laws.{length-run}
 use Rattle.block.proofs.Stores.{run-add}
 use Rattle.block.proofs.Spans.{span-low, span-high, span-split}
@@ -43,22 +43,39 @@ module _ (img : List ℕ) where
       go true e = gather-low 4 o (omega (arith, ltb-true o 16 e)) (omega arith) ∙ rw e
       go false e = gather-high 4 o (ltb-false o 16 e) (omega arith) ∙ rw e
 
--- n bytes that lie in both, read and stored one part behind the other
+-- bytes of two runs, read and stored one behind the other
+stored-behind : (img out out′ out″ : List ℕ) (m n p q to : ℕ) → p + m ≤ length img → q + n ≤ length img
+    → out′ ≡ put out (run to m) (take m (drop p img))
+    → out″ ≡ put out′ (run (to + m) n) (take n (drop q img))
+    → out″ ≡ put out (run to (m + n)) (gather img (run p m ++ run q n))
+stored-behind img out out′ out″ m n p q to h g d e =
+    let first = take m (drop p img) in
+    let then = take n (drop q img) in
+    let long : length first ≡ length (run to m) = length-take-le m (drop p img) (rw length-drop (omega arith)) ∙ sym (length-run m to) in
+    e ∙ ap (λ (x : List ℕ). put x (run (to + m) n) then) d
+    ∙ sym (put-append out (run to m) (run (to + m) n) first then long)
+    ∙ rw (run-add, gather-append, gather-run img m p h, gather-run img n q g)
+
+-- n bytes from offset o on that lie in the register words and in the area
 pub stored-split : (img out out′ out″ : List ℕ) (n o to : ℕ) → o ≤ 16 → 16 ≤ o + n → 32 + (o + n) ≤ length img
     → out′ ≡ put out (run to (16 - o)) (take (16 - o) (drop o img))
     → out″ ≡ put out′ (run (to + (16 - o)) (n - (16 - o))) (take (n - (16 - o)) (drop 48 img))
     → out″ ≡ put out (run to n) (gather img (map carrier (run o n)))
 stored-split img out out′ out″ n o to h g l d e =
-    let m = 16 - o in
-    let low = take m (drop o img) in
-    let high = take (n - m) (drop 48 img) in
-    let count : m + (n - m) ≡ n = omega arith in
-    let long : length low ≡ length (run to m) = length-take-le m (drop o img) (rw length-drop (omega arith)) ∙ sym (length-run m to) in
-    let read : gather img (map carrier (run o n)) ≡ low ++ high =
-    rw (span-split n o h g, gather-append, gather-run img m o (omega arith), gather-run img (n - m) 48 (omega arith)) in
-    e ∙ ap (λ (x : List ℕ). put x (run (to + m) (n - m)) high) d
-    ∙ sym (put-append out (run to m) (run (to + m) (n - m)) low high long)
-    ∙ ap₂ (λ (ps vs : List ℕ). put out ps vs) (sym (run-add m (n - m) to) ∙ ap (run to) count) (sym read)
+    let count : 16 - o + (n - (16 - o)) ≡ n = omega arith in
+    stored-behind img out out′ out″ (16 - o) (n - (16 - o)) o 48 to (omega arith) (omega arith) d e
+    ∙ ap₂ (λ (k : ℕ) (ps : List ℕ). put out (run to k) (gather img ps)) count (sym (span-split n o h g))
+
+-- the word of a register, and behind it that of another
+module _ (img out out′ : List ℕ) (f p to : ℕ) (first : out′ ≡ put out (run to 4) (take 4 (drop p img))) (at : p ≡ 16 + 4 * (f - 12)) (inside : p + 4 ≤ length img) where
+  pub one-register : out′ ≡ put out (run to 4) (gather img (registerBytes (f ∷ [])))
+  one-register = first ∙ ap (put out (run to 4)) (sym (gather-run img 4 p inside)) ∙ ap (λ (x : ℕ). put out (run to 4) (gather img (run x 4))) at
+
+  pub two-registers : (out″ : List ℕ) (g q : ℕ) → out″ ≡ put out′ (run (to + 4) 4) (take 4 (drop q img)) → q ≡ 16 + 4 * (g - 12) → q + 4 ≤ length img
+      → out″ ≡ put out (run to 8) (gather img (registerBytes (f ∷ g ∷ [])))
+  two-registers out″ g q second e h =
+      stored-behind img out out′ out″ 4 4 p q to inside h first second
+      ∙ ap₂ (λ (x y : ℕ). put out (run to 8) (gather img (run x 4 ++ run y 4))) at e
 
 -- ---- the body in bytes, and whether they are proper
 

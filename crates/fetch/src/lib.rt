@@ -6,8 +6,8 @@ ghost use lib.ListN.{length};
 ghost use Rattle.words.specs.Words.{body, proper};
 ghost use Rattle.carried.specs.Image.{gather, put};
 ghost use Rattle.o32.specs.Offsets.{extension};
-ghost use Rattle.o32.specs.O32.{carrier, carriers, run};
-ghost use Rattle.placement.specs.Fitting.{Fit};
+ghost use Rattle.o32.specs.O32.{carrier, carriers, floatBytes, run};
+ghost use Rattle.placement.specs.Fitting.{Fit, Floating};
 use o32::Class;
 use o32::Placement;
 
@@ -57,6 +57,22 @@ fn get_plain(image: &[u8], o: usize, out: &mut [u8], to: usize, size: usize)
     block::copy(out, to + low, image, 48, size - low);
 }
 
+// A float from the word of its register, or a double from those of its pair.
+fn get_float(image: &[u8], register: usize, out: &mut [u8], to: usize, size: usize)
+    requires { ⌜ Floating register size ⌝ }
+    requires { ⌜ (32 ≤ length (now image)) × (to + size ≤ length (now out)) ⌝ }
+    ensures { λ _. ⌜ now (out .exit) ≡ put (now (out .entry)) (run to size) (gather (now (image .entry)) (floatBytes register size)) ⌝ }
+{
+    let even = 4 * register - 32;
+    if size == 8 {
+        let odd = even + 4;
+        block::copy(out, to, image, odd, 4); // the high half, from the odd register
+        block::copy(out, to + 4, image, even, 4); // the low half, from the even one
+        return;
+    }
+    block::copy(out, to, image, even, 4);
+}
+
 // The body of an argument, into a list.
 pub fn get_body(image: &[u8], place: Placement, out: &mut [u8], to: usize)
     requires { ⌜ Fit place (length (now image)) ⌝ }
@@ -67,7 +83,7 @@ pub fn get_body(image: &[u8], place: Placement, out: &mut [u8], to: usize)
     let size = kind.size;
     let register = place.register;
     if register != 0 {
-        block::copy(out, to, image, 4 * register - 32, size);
+        get_float(image, register, out, to, size);
         return;
     }
     let o = place.offset;

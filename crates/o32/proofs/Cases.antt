@@ -52,9 +52,9 @@ table =
     -- 01 80
     ∷ case (0x01 ∷ 0x80 ∷ []) (0xFFFFFF80 ∷ 0 ∷ 0 ∷ 0 ∷ []) none none
     -- d,s
-    ∷ case (d 0xD1D2D3D4D5D6D7D8 ++ s 0xA1A2A3A4) none (0xD1D2D3D4 ∷ 0xD5D6D7D8 ∷ 0xA1A2A3A4 ∷ 0 ∷ []) none
+    ∷ case (d 0xD1D2D3D4D5D6D7D8 ++ s 0xA1A2A3A4) none (0xD5D6D7D8 ∷ 0xD1D2D3D4 ∷ 0xA1A2A3A4 ∷ 0 ∷ []) none
     -- s,d
-    ∷ case (s 0xA1A2A3A4 ++ d 0xD1D2D3D4D5D6D7D8) none (0xA1A2A3A4 ∷ 0 ∷ 0xD1D2D3D4 ∷ 0xD5D6D7D8 ∷ []) none
+    ∷ case (s 0xA1A2A3A4 ++ d 0xD1D2D3D4D5D6D7D8) none (0xA1A2A3A4 ∷ 0 ∷ 0xD5D6D7D8 ∷ 0xD1D2D3D4 ∷ []) none
     -- s,s,d
     ∷ case (s 0xA1A2A3A4 ++ s 0xB1B2B3B4 ++ d 0xD1D2D3D4D5D6D7D8) (0 ∷ 0 ∷ 0xD1D2D3D4 ∷ 0xD5D6D7D8 ∷ []) (0xA1A2A3A4 ∷ 0 ∷ 0xB1B2B3B4 ∷ 0 ∷ []) none
     -- n,d

@@ -20,19 +20,26 @@ register st k =
     cond (is Float k && eqb (st .count) 0) 12
     (cond (is Float k && eqb (st .count) 1 && st .floating && not (st .marked)) 14 0)
 
--- n image bytes from p on, and those of the floating register f: "It starts with eight register words, `$4` to `$7` then
--- `$f12` to `$f15`".
+-- Rule 3, as request (i) of document 02 mends it. The registers that hold a float's bytes, in the order of the bytes. A single
+-- is in its register. A double takes the pair, and "the even floating register holds the low half and the odd one the high half":
+-- its first four bytes are in the odd register, the next four in the even one. (Document 01's wording, "its first four bytes in
+-- the even register, the next four in the odd one", was wrong.)
+abbrev pub floatRegisters : ℕ → ℕ → List ℕ
+floatRegisters f size = cond (eqb size 8) ((f + 1) ∷ f ∷ []) (f ∷ [])
+
+-- n image bytes from p on, and those of floating registers: "It starts with eight register words, `$4` to `$7` then `$f12` to
+-- `$f15`".
 abbrev pub run : ℕ → ℕ → List ℕ
 run p zero = []
 run p (suc n) = p ∷ run (suc p) n
 
-abbrev pub registerWord : ℕ → List ℕ
-registerWord f = run (16 + 4 * (f - 12)) 4
+abbrev pub registerBytes : List ℕ → List ℕ
+registerBytes [] = []
+registerBytes (f ∷ fs) = run (16 + 4 * (f - 12)) 4 ++ registerBytes fs
 
--- Rule 3. A single is in the register; "A double takes the pair ..: its first four bytes in the even register, the next four
--- in the odd one."
+-- "An argument of rule 3 has .. the bytes of the register words which that rule names, in its order."
 abbrev pub floatBytes : ℕ → ℕ → List ℕ
-floatBytes f size = cond (eqb size 8) (registerWord f ++ registerWord (f + 1)) (registerWord f)
+floatBytes f size = registerBytes (floatRegisters f size)
 
 -- Rule 4, in an image: byte o of the arguments' structure is in register word o / 4, or at offset o of the area behind the 32
 -- bytes of the register words. "Byte i (from 0) of an argument at offset o is carried by image byte o + i where o + i is below

@@ -6,6 +6,7 @@ use mathlib.Core.List.{List, [], _∷_, _++_, map}
 use mathlib.Core.Bool.{Bool, true, false, cond, _&&_, and-false}
 use Prim.Native.Nat.{ℕ, zero, suc, _+_, _-_, _*_, _≤_, _<_}
 use native.Mathlib.Omega.{arith}
+use native.Mathlib.Nat.{zero-add}
 use lib.ListN.{length, getD, List·getD-append}
 use lib.Seq.{getD-append-add}
 use lib.Dec.{eqb}
@@ -19,7 +20,7 @@ use Rattle.o32.specs.declared.State.{State}
 use Rattle.o32.specs.declared.Placement.{Placement}
 use Rattle.o32.specs.Kinds.{kindOf, is, classNumber}
 use Rattle.o32.specs.Offsets.{width, offset, ending}
-use Rattle.o32.specs.O32.{register, run, registerWord, floatBytes, carrier, carriers, misplaced, onward, placement, O32}
+use Rattle.o32.specs.O32.{register, run, floatRegisters, registerBytes, floatBytes, carrier, carriers, misplaced, onward, placement, O32}
 use Rattle.placement.specs.Carrying.{endOf, registerBehind, CarriedAt}
 use Rattle.placement.proofs.KindFacts.{kind-sound}
 use Rattle.placement.proofs.Steps.{Stepped, Says, says}
@@ -153,20 +154,12 @@ carrier-low o h = rw (lt-ltb o 16 h)
 carrier-high : (o : ℕ) → 16 ≤ o → carrier o ≡ 32 + o
 carrier-high o h = rw (le-ltb o 16 h)
 
-getD-even : (f size i : ℕ) → i < 4 → getD (floatBytes f size) i 0 ≡ 16 + 4 * (f - 12) + i
-getD-even f size i h = go (eqb size 8)
-  where
-    go : (t : Bool) → getD (cond t (registerWord f ++ registerWord (f + 1)) (registerWord f)) i 0 ≡ 16 + 4 * (f - 12) + i
-    go true = List·getD-append (registerWord f) (registerWord (f + 1)) 0 i h ∙ getD-run 4 (16 + 4 * (f - 12)) i h
-    go false = getD-run 4 (16 + 4 * (f - 12)) i h
-
-getD-odd : (f size i : ℕ) → i < 4 → 4 + i < length (floatBytes f size) → getD (floatBytes f size) (4 + i) 0 ≡ 16 + 4 * (f + 1 - 12) + i
-getD-odd f size i h l = go (eqb size 8) l
-  where
-    go : (t : Bool) → 4 + i < length (cond t (registerWord f ++ registerWord (f + 1)) (registerWord f))
-        → getD (cond t (registerWord f ++ registerWord (f + 1)) (registerWord f)) (4 + i) 0 ≡ 16 + 4 * (f + 1 - 12) + i
-    go true l = getD-append-add (registerWord f) (registerWord (f + 1)) i 0 ∙ getD-run 4 (16 + 4 * (f + 1 - 12)) i h
-    go false l = absurd (omega arith)
+getD-register : (fs : List ℕ) (j i : ℕ) → j < length fs → i < 4 → getD (registerBytes fs) (4 * j + i) 0 ≡ 16 + 4 * (getD fs j 0 - 12) + i
+getD-register [] j i l h = absurd (omega arith)
+getD-register (f ∷ fs) zero i l h = rw zero-add (List·getD-append (run (16 + 4 * (f - 12)) 4) (registerBytes fs) 0 i h ∙ getD-run 4 (16 + 4 * (f - 12)) i h)
+getD-register (f ∷ fs) (suc j) i l h =
+    let e : 4 * suc j + i ≡ 4 + (4 * j + i) = omega arith in
+    rw e (getD-append-add (run (16 + 4 * (f - 12)) 4) (registerBytes fs) (4 * j + i) 0 ∙ getD-register fs j i (omega arith) h)
 
 -- only floats have a floating register
 floats-only : (before : List ℕ) (k : ℕ) → 1 ≤ registerBehind before k → is Float (kindOf k) ≡ true
@@ -212,6 +205,13 @@ module _ (before : List ℕ) (k : ℕ) (s : Placed)
   at-byte z o i e h =
       ap (λ (x : List ℕ). getD x i 0) (by-offset z) ∙ getD-span (width (kindOf k)) (offset (kindOf k) (endOf 0 before)) i (omega (arith, carried-long 0 z)) ∙ rw e
 
+  -- byte i of word j of a float
+  in-register : 1 ≤ registerBehind before k → {n : ℕ} → kindOf k .size ≡ n → (j i p : ℕ) → j < length (floatRegisters (registerBehind before k) n) → i < 4 → p ≡ 4 * j + i
+      → getD cs p 0 ≡ 16 + 4 * (getD (floatRegisters (registerBehind before k) n) j 0 - 12) + i
+  in-register h {n} z j i p m l e =
+      let q : cs ≡ floatBytes (registerBehind before k) n = by-register h ∙ ap (floatBytes (registerBehind before k)) z in
+      rw (q, e) (getD-register (floatRegisters (registerBehind before k) n) j i m l)
+
   law : CarriedAt before k s
   law = record {
     size = ap (λ (x : Placed). x .size) is-so;
@@ -219,10 +219,9 @@ module _ (before : List ℕ) (k : ℕ) (s : Placed)
     long = carried-long (registerBehind before k) refl;
     low = λ z o i e h l. at-byte z o i e h ∙ carrier-low (o + i) l;
     high = λ z o i e h l. at-byte z o i e h ∙ carrier-high (o + i) l;
-    even = λ f e h i l. rw (← e) (ap (λ (x : List ℕ). getD x i 0) (by-register (omega arith)) ∙ getD-even (registerBehind before k) (kindOf k .size) i l);
-    odd = λ f e h i l m.
-        let q : cs ≡ floatBytes (registerBehind before k) (kindOf k .size) = by-register (omega arith) in
-        rw (← e) (ap (λ (x : List ℕ). getD x (4 + i) 0) q ∙ getD-odd (registerBehind before k) (kindOf k .size) i l (rw q at m));
+    single = λ f e h z i l. rw (← e) (in-register (omega arith) z 0 i i (omega arith) l (omega arith));
+    odd = λ f e h z i l. rw (← e) (in-register (omega arith) z 0 i i (omega arith) l (omega arith));
+    even = λ f e h z i l. rw (← e) (in-register (omega arith) z 1 i (4 + i) (omega arith) l (omega arith));
   }
 
 -- At every accepted signature, the record of every kind byte is carried so.

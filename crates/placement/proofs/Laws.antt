@@ -1,8 +1,8 @@
 -- What each step of O32 gives: the image bytes of a record are new and inside the image. So the carried-bytes theorem holds of it.
 -- Assumes nothing.
-use mathlib.Core.Path.{_≡_, refl, sym, ap, _∙_}
+use mathlib.Core.Path.{_≡_, refl, sym, ap, _∙_, subst}
 use mathlib.Core.Logic.{_⊎_, inl, inr}
-use mathlib.Core.List.{List, _++_, map}
+use mathlib.Core.List.{List, [], _∷_, map}
 use mathlib.Core.Bool.{Bool, true, false, cond, not, _&&_}
 use Prim.Native.Nat.{ℕ, zero, suc, _+_, _-_, _*_, _≤_, _<_}
 use native.Mathlib.Omega.{arith}
@@ -25,7 +25,7 @@ use Rattle.o32.specs.declared.State.{State}
 use Rattle.o32.specs.declared.Placement.{Placement}
 use Rattle.o32.specs.Kinds.{kindOf}
 use Rattle.o32.specs.Offsets.{extension, offset, ending}
-use Rattle.o32.specs.O32.{register, run, registerWord, floatBytes, carrier, carriers, area, misplaced, full, onward, stepped, O32}
+use Rattle.o32.specs.O32.{register, run, floatRegisters, registerBytes, floatBytes, carrier, carriers, area, misplaced, full, onward, stepped, O32}
 use Rattle.placement.proofs.KindFacts.{Sound, kind-sound}
 
 -- ---- the next multiple
@@ -109,24 +109,43 @@ span-distinct (suc n) o = ((λ m. carrier-at o (carrier o) refl .before (span-at
 pub length-span : (n o : ℕ) → length (span o n) ≡ n
 length-span n o = length-map (run o n) carrier ∙ length-run n o
 
--- ---- bytes of a floating register pair
+-- ---- bytes of floating registers
 
-float-at : (f size p : ℕ) → 12 ≤ f → In p (floatBytes f size) → (16 + 4 * (f - 12) ≤ p) × (p < 24 + 4 * (f - 12))
-float-at f size p h m = go (eqb size 8) m
-  where
-    go : (t : Bool) → In p (cond t (registerWord f ++ registerWord (f + 1)) (registerWord f)) → (16 + 4 * (f - 12) ≤ p) × (p < 24 + 4 * (f - 12))
-    go true m = in-cases (registerWord f) (registerWord (f + 1)) p m
-        (λ i. omega (arith, run-at 4 (16 + 4 * (f - 12)) p i))
-        (λ i. omega (arith, run-at 4 (16 + 4 * (f + 1 - 12)) p i))
-    go false m = omega (arith, run-at 4 (16 + 4 * (f - 12)) p m)
+-- the register whose word has this byte
+record Holder (fs : List ℕ) (p : ℕ) : Type 0 where
+  register : ℕ
+  one : In register fs
+  inside : (16 + 4 * (register - 12) ≤ p) × (p < 20 + 4 * (register - 12))
 
-float-distinct : (f size : ℕ) → 12 ≤ f → Distinct (floatBytes f size)
-float-distinct f size h = go (eqb size 8)
+holder : (fs : List ℕ) (p : ℕ) → In p (registerBytes fs) → Holder fs p
+holder [] p m = absurd m
+holder (f ∷ fs) p m = in-cases (run (16 + 4 * (f - 12)) 4) (registerBytes fs) p m
+    (λ i. record { register = f; one = inl refl; inside = omega (arith, run-at 4 (16 + 4 * (f - 12)) p i) })
+    (λ i. let h = holder fs p i in record { register = h .register; one = inr (h .one); inside = h .inside })
+
+registers-distinct : (fs : List ℕ) → ((f : ℕ) → In f fs → 12 ≤ f) → Distinct fs → Distinct (registerBytes fs)
+registers-distinct [] h d = tt
+registers-distinct (f ∷ fs) h d = distinct-append (run (16 + 4 * (f - 12)) 4) (registerBytes fs) (run-distinct 4 (16 + 4 * (f - 12)))
+    (registers-distinct fs (λ g i. h g (inr i)) (d .1))
+    (λ p i j.
+    let w = holder fs p j in
+    let e : w .register ≡ f = omega (arith, w .inside, run-at 4 (16 + 4 * (f - 12)) p i, h f (inl refl), h (w .register) (inr (w .one))) in
+    d .0 (subst (λ (g : ℕ). In g fs) e (w .one)))
+
+-- those of a float: its register, or the two of the pair, in whichever order
+float-registers : (f size g : ℕ) → (size ≡ 4) ⊎ (size ≡ 8) → In g (floatRegisters f size) → (f ≤ g) × (g ≤ f + 1)
+float-registers f size g (inl e) m = elim (rw e at m) [ inl x ↦ omega arith | inr x ↦ absurd x ]
+float-registers f size g (inr e) m = elim (rw e at m) [ inl x ↦ omega arith | inr (inl x) ↦ omega arith | inr (inr x) ↦ absurd x ]
+
+float-distinct : (f size : ℕ) → 12 ≤ f → (size ≡ 4) ⊎ (size ≡ 8) → Distinct (floatBytes f size)
+float-distinct f size h z = registers-distinct (floatRegisters f size) (λ g i. omega (arith, float-registers f size g z i)) (go z)
   where
-    go : (t : Bool) → Distinct (cond t (registerWord f ++ registerWord (f + 1)) (registerWord f))
-    go true = distinct-append (registerWord f) (registerWord (f + 1)) (run-distinct 4 (16 + 4 * (f - 12))) (run-distinct 4 (16 + 4 * (f + 1 - 12)))
-        (λ p i j. omega (arith, run-at 4 (16 + 4 * (f - 12)) p i, run-at 4 (16 + 4 * (f + 1 - 12)) p j))
-    go false = run-distinct 4 (16 + 4 * (f - 12))
+    go : (size ≡ 4) ⊎ (size ≡ 8) → Distinct (floatRegisters f size)
+    go (inl e) = rw e (absurd, tt)
+    go (inr e) = rw e ((λ m. elim m [ inl x ↦ omega arith | inr x ↦ x ]), (absurd, tt))
+
+pub float-at : (f size p : ℕ) → 12 ≤ f → (size ≡ 4) ⊎ (size ≡ 8) → In p (floatBytes f size) → (16 + 4 * (f - 12) ≤ p) × (p < 24 + 4 * (f - 12))
+float-at f size p h z m = let w = holder (floatRegisters f size) p m in omega (arith, w .inside, float-registers f size (w .register) z (w .one))
 
 pub length-float : (f size : ℕ) → (size ≡ 4) ⊎ (size ≡ 8) → length (floatBytes f size) ≡ size
 length-float f size (inl e) = rw e refl
@@ -179,11 +198,11 @@ module _ (st : State) (k n f : ℕ) (st′ : State) where
   floated h q c z g l = record {
     kind = refl;
     sized = λ b x. x ∙ sym (length-float f n z);
-    apart = float-distinct f n h;
-    free = λ p i. inr (omega (arith, float-at f n p h i));
-    used = λ p i. rw l (float-used (st′ .end) (st .count) p c (omega (arith, float-at f n p h i)));
+    apart = float-distinct f n h z;
+    free = λ p i. inr (omega (arith, float-at f n p h z i));
+    used = λ p i. rw l (float-used (st′ .end) (st .count) p c (omega (arith, float-at f n p h z i)));
     keeps = λ p. unused-mono (st .end) (st′ .end) (st .count) (st′ .count) p g (omega arith);
-    inside = λ p i. omega (arith, float-at f n p h i);
+    inside = λ p i. omega (arith, float-at f n p h z i);
     grows = long-mono (st .end) (st′ .end) g;
   }
 
