@@ -78,8 +78,10 @@
  *
  *   - If the first argument is a float, it goes to $f12, and if the second is
  *     one too and no marker stands before it, that one goes to $f14. A double
- *     takes $f12,$f13 or $f14,$f15, its first four bytes in the even register.
- *     A return pointer counts as the first argument.
+ *     takes $f12,$f13 or $f14,$f15: the even register holds its low half, the
+ *     last four bytes, and the odd one its high half, the first four. So 1.0
+ *     gives $f12 = 00000000, $f13 = 3FF00000. A return pointer counts as the
+ *     first argument.
  *   - Of all others, what lies at an offset o below 16 goes to register
  *     $4 + o/4, and what lies at 16 or above stays in the area at offset o. A
  *     structure may be split so.

@@ -22,16 +22,19 @@ const END_LIMIT: usize = 1024;
 pub(crate) struct Placement {
     /// Image offset of the argument's first byte.
     start: usize,
-    /// How many bytes lie there; the rest begins the stack.
+    /// How many bytes lie there.
     together: usize,
 }
 
 impl Placement {
-    /// In a floating register or pair.
+    /// In a floating register or pair. The even register of a pair holds the
+    /// low half of a double and the odd one the high half, whatever the byte
+    /// order (request (i)), so a double begins in the odd register. A single
+    /// is one word and has the even register.
     fn floating(pair: usize, size: usize) -> Self {
         Placement {
-            start: pair,
-            together: size,
+            start: pair + size - 4,
+            together: 4,
         }
     }
 
@@ -51,18 +54,31 @@ impl Placement {
         }
     }
 
+    /// Image offset of the bytes that don't lie together with the first.
+    fn rest(&self) -> usize {
+        if (GENERAL_BYTES..REGISTER_BYTES).contains(&self.start) {
+            self.start - 4
+        } else {
+            STACK_START
+        }
+    }
+
     /// Puts the argument's bytes where the image carries them.
     pub(crate) fn put(&self, bytes: &[u8], image: &mut [u8]) {
-        let (here, on_stack) = bytes.split_at(self.together);
+        let (here, rest) = bytes.split_at(self.together);
         copy(here, &mut image[self.start..]);
-        copy(on_stack, &mut image[STACK_START..]);
+        if !rest.is_empty() {
+            copy(rest, &mut image[self.rest()..]);
+        }
     }
 
     /// Gets the argument's bytes from where the image carries them.
     pub(crate) fn get(&self, image: &[u8], bytes: &mut [u8]) {
-        let (here, on_stack) = bytes.split_at_mut(self.together);
+        let (here, rest) = bytes.split_at_mut(self.together);
         copy_all(&image[self.start..], here);
-        copy_all(&image[STACK_START..], on_stack);
+        if !rest.is_empty() {
+            copy_all(&image[self.rest()..], rest);
+        }
     }
 }
 
@@ -184,8 +200,21 @@ mod tests {
     #[test]
     fn a_third_float_goes_by_its_offset() {
         let (placements, size) = place_all(&[Kind::Single, Kind::Double, Kind::Single]);
-        assert_eq!(placements, [(16, 4), (24, 8), (48, 4)]);
+        assert_eq!(placements, [(16, 4), (28, 4), (48, 4)]);
         assert_eq!(size, 24);
+    }
+
+    #[test]
+    fn a_double_in_a_pair_has_its_high_half_in_the_odd_register() {
+        for pair in FLOATING_PAIRS {
+            let placement = Placement::floating(pair, 8);
+            let mut image = [0; 48];
+            placement.put(&[1, 2, 3, 4, 5, 6, 7, 8], &mut image);
+            assert_eq!(image[pair..pair + 8], [5, 6, 7, 8, 1, 2, 3, 4]);
+            let mut bytes = [0; 8];
+            placement.get(&image, &mut bytes);
+            assert_eq!(bytes, [1, 2, 3, 4, 5, 6, 7, 8]);
+        }
     }
 
     #[test]

@@ -121,8 +121,8 @@ fn cases_of_the_table() {
         "08 07",
         16,
         &[
-            (F(12), 0x0102_0304),
-            (F(13), 0x0506_0708),
+            (F(12), 0x0506_0708),
+            (F(13), 0x0102_0304),
             (F(14), 0x1112_1314),
         ],
     );
@@ -132,8 +132,8 @@ fn cases_of_the_table() {
         16,
         &[
             (F(12), 0x1112_1314),
-            (F(14), 0x0102_0304),
-            (F(15), 0x0506_0708),
+            (F(14), 0x0506_0708),
+            (F(15), 0x0102_0304),
         ],
     );
     check(
@@ -208,7 +208,7 @@ fn cases_of_the_table() {
 fn the_case_in_full() {
     let list = hex("08 3FF0000000000000 05 00000007 08 4000000000000000");
     let image = hex(
-        "00000000 00000000 00000007 00000000 3FF00000 00000000 00000000 00000000
+        "00000000 00000000 00000007 00000000 00000000 3FF00000 00000000 00000000
                      00000000 00000000 00000000 00000000 40000000 00000000",
     );
     assert_eq!(written(&list), image);
@@ -216,7 +216,8 @@ fn the_case_in_full() {
     assert_eq!(read_back(&hex("08 05 08"), &image), list);
 }
 
-/// Where each argument of a figure's example begins.
+/// Where each argument of a figure's example begins. A double in a floating
+/// pair begins in the odd register, which holds its high half.
 fn check_figure(kinds: &str, first_words: &[At]) {
     let mut list = Vec::new();
     let mut signature = Vec::new();
@@ -250,13 +251,13 @@ fn check_figure(kinds: &str, first_words: &[At]) {
 
 #[test]
 fn figure_3_22() {
-    check_figure("dd", &[F(12), F(14)]);
+    check_figure("dd", &[F(13), F(15)]);
     check_figure("ss", &[F(12), F(14)]);
-    check_figure("sd", &[F(12), F(14)]);
-    check_figure("ds", &[F(12), F(14)]);
+    check_figure("sd", &[F(12), F(15)]);
+    check_figure("ds", &[F(13), F(14)]);
     check_figure("nnnn", &[R(4), R(5), R(6), R(7)]);
-    check_figure("dnd", &[F(12), R(6), Stack(16)]);
-    check_figure("dnn", &[F(12), R(6), R(7)]);
+    check_figure("dnd", &[F(13), R(6), Stack(16)]);
+    check_figure("dnn", &[F(13), R(6), R(7)]);
     check_figure("snn", &[F(12), R(5), R(6)]);
     check_figure("nnnd", &[R(4), R(5), R(6), Stack(16)]);
     check_figure("nnns", &[R(4), R(5), R(6), R(7)]);
@@ -265,7 +266,7 @@ fn figure_3_22() {
     check_figure("ssss", &[F(12), F(14), R(6), R(7)]);
     check_figure("snsn", &[F(12), R(5), R(6), R(7)]);
     // Misprinted as `$6` in the figure.
-    check_figure("dss", &[F(12), F(14), R(7)]);
+    check_figure("dss", &[F(13), F(14), R(7)]);
     check_figure("ssd", &[F(12), F(14), R(6)]);
     check_figure("nsns", &[R(4), R(5), R(6), R(7)]);
     check_figure("nsnn", &[R(4), R(5), R(6), R(7)]);
@@ -278,19 +279,19 @@ fn figure_3_22_with_an_ellipsis_in_the_second_slot() {
     check_figure("s.n", &[F(12), R(5)]);
     check_figure("s.nd", &[F(12), R(5), R(6)]);
     // Misprinted as "f6" in the figure.
-    check_figure("d.n", &[F(12), R(6)]);
-    check_figure("d.nd", &[F(12), R(6), Stack(16)]);
+    check_figure("d.n", &[F(13), R(6)]);
+    check_figure("d.nd", &[F(13), R(6), Stack(16)]);
 }
 
 #[test]
 fn further_examples_with_long_integers() {
-    check_figure("dsd", &[F(12), F(14), Stack(16)]);
-    check_figure("dsss", &[F(12), F(14), R(7), Stack(16)]);
+    check_figure("dsd", &[F(13), F(14), Stack(16)]);
+    check_figure("dsss", &[F(13), F(14), R(7), Stack(16)]);
     check_figure("nsd", &[R(4), R(5), R(6)]);
     check_figure("jd", &[R(4), R(6)]);
     check_figure("js", &[R(4), R(6)]);
     check_figure("s.d", &[F(12), R(6)]);
-    check_figure("d.s", &[F(12), R(6)]);
+    check_figure("d.s", &[F(13), R(6)]);
     check_figure("j.d", &[R(4), R(6)]);
     check_figure("ss.", &[F(12), F(14)]);
 }
