@@ -15,11 +15,12 @@ use Rattle.block.specs.Block.{blockBytes, whole}
 use Rattle.block.proofs.Stores.{store-behind}
 use Rattle.block.proofs.Image.{word-stored, whole-low}
 
+-- the registers and sizes of floats
 pub bounds : {f size : ℕ} → Floating f size → ((12 ≤ f) × (f ≤ 14)) × ((4 ≤ size) × (size ≤ 8))
 bounds h = (elim (h .named) [ inl e ↦ omega arith | inr e ↦ omega arith ], elim (h .sized) [ inl e ↦ omega arith | inr e ↦ omega arith ])
 
-pub single : {f size : ℕ} → Floating f size → (size ≡ 8 → ⊥) → size ≡ 4
-single h n = elim (h .sized) [ inl e ↦ e | inr e ↦ absurd (n e) ]
+pub single-size : {f size : ℕ} → Floating f size → (size ≡ 8 → ⊥) → size ≡ 4
+single-size h n = elim (h .sized) [ inl e ↦ e | inr e ↦ absurd (n e) ]
 
 -- word j of the block is that of register j + 8
 register-stored : (block : List ℕ) (j f u : ℕ) → length block ≡ 8 → j + 8 ≡ f → 12 ≤ f → f ≤ 15

@@ -12,21 +12,17 @@ use borrow.Author.Tests.{eqb-true, eqb-false, eq-eqb, ne-eqb}
 use Rattle.words.specs.Words.{toWord, body, proper}
 use Rattle.carried.specs.Image.{gather}
 use Rattle.carried.proofs.Places.{length-gather}
-use Rattle.o32.specs.declared.Class.the-variants.{Signed, Unsigned, Float}
-use Rattle.o32.specs.declared.Kind.{Kind}
+use Rattle.o32.specs.declared.Class.the-variants.{Signed, Unsigned}
 use Rattle.o32.specs.declared.Placement.{Placement}
-use Rattle.o32.specs.Kinds.{is, classNumber}
+use Rattle.o32.specs.Kinds.{is}
 use Rattle.o32.specs.Offsets.{extension, width}
 use Rattle.o32.specs.O32.{run, floatBytes, carrier, carriers}
 use Rattle.placement.proofs.Laws.{length-span, length-float}
+use Rattle.placement.proofs.Carrying.{float-width}
 use Rattle.placement.specs.Fitting.{Fit, Floating}
 use Rattle.block.proofs.Floats.{bounds}
 use Rattle.block.proofs.Arguments.{Worded, Plain, body-fits}
 use Rattle.fetch.proofs.Parts.{gather-word, body-whole, body-part, proper-whole}
-
--- a float's bytes stay as they are
-float-width : (k : Kind) → is Float k ≡ true → width k ≡ k .size
-float-width k f = let e : classNumber (k .class) ≡ 5 = eqb-true (classNumber (k .class)) 5 f in rw e
 
 carrier-le : (o : ℕ) → carrier o ≤ 32 + o
 carrier-le o = go (ltb o 16) refl

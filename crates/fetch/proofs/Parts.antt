@@ -24,7 +24,7 @@ use Rattle.block.proofs.Spans.{span-low, span-high, span-split}
 -- ---- read at bytes that lie together
 
 module _ (img : List ℕ) where
-  pub gather-run : (n p : ℕ) → p + n ≤ length img → gather img (run p n) ≡ take n (drop p img)
+  gather-run : (n p : ℕ) → p + n ≤ length img → gather img (run p n) ≡ take n (drop p img)
   gather-run zero p h = refl
   gather-run (suc n) p h = rw (gather-run n (suc p) (omega arith), drop-cons img p 0 (omega arith))
 
@@ -44,11 +44,11 @@ module _ (img : List ℕ) where
       go false e = gather-high 4 o (ltb-false o 16 e) (omega arith) ∙ rw e
 
 -- bytes of two runs, read and stored one behind the other
-stored-behind : (img out out′ out″ : List ℕ) (m n p q to : ℕ) → p + m ≤ length img → q + n ≤ length img
+read-behind : (img out out′ out″ : List ℕ) (m n p q to : ℕ) → p + m ≤ length img → q + n ≤ length img
     → out′ ≡ put out (run to m) (take m (drop p img))
     → out″ ≡ put out′ (run (to + m) n) (take n (drop q img))
     → out″ ≡ put out (run to (m + n)) (gather img (run p m ++ run q n))
-stored-behind img out out′ out″ m n p q to h g d e =
+read-behind img out out′ out″ m n p q to h g d e =
     let first = take m (drop p img) in
     let then = take n (drop q img) in
     let long : length first ≡ length (run to m) = length-take-le m (drop p img) (rw length-drop (omega arith)) ∙ sym (length-run m to) in
@@ -63,18 +63,18 @@ pub stored-split : (img out out′ out″ : List ℕ) (n o to : ℕ) → o ≤ 1
     → out″ ≡ put out (run to n) (gather img (map carrier (run o n)))
 stored-split img out out′ out″ n o to h g l d e =
     let count : 16 - o + (n - (16 - o)) ≡ n = omega arith in
-    stored-behind img out out′ out″ (16 - o) (n - (16 - o)) o 48 to (omega arith) (omega arith) d e
+    read-behind img out out′ out″ (16 - o) (n - (16 - o)) o 48 to (omega arith) (omega arith) d e
     ∙ ap₂ (λ (k : ℕ) (ps : List ℕ). put out (run to k) (gather img ps)) count (sym (span-split n o h g))
 
 -- the word of a register, and behind it that of another
 module _ (img out out′ : List ℕ) (f p to : ℕ) (first : out′ ≡ put out (run to 4) (take 4 (drop p img))) (at : p ≡ 16 + 4 * (f - 12)) (inside : p + 4 ≤ length img) where
-  pub one-register : out′ ≡ put out (run to 4) (gather img (registerBytes (f ∷ [])))
-  one-register = first ∙ ap (put out (run to 4)) (sym (gather-run img 4 p inside)) ∙ ap (λ (x : ℕ). put out (run to 4) (gather img (run x 4))) at
+  pub read-one : out′ ≡ put out (run to 4) (gather img (registerBytes (f ∷ [])))
+  read-one = first ∙ ap (put out (run to 4)) (sym (gather-run img 4 p inside)) ∙ ap (λ (x : ℕ). put out (run to 4) (gather img (run x 4))) at
 
-  pub two-registers : (out″ : List ℕ) (g q : ℕ) → out″ ≡ put out′ (run (to + 4) 4) (take 4 (drop q img)) → q ≡ 16 + 4 * (g - 12) → q + 4 ≤ length img
+  pub read-two : (out″ : List ℕ) (g q : ℕ) → out″ ≡ put out′ (run (to + 4) 4) (take 4 (drop q img)) → q ≡ 16 + 4 * (g - 12) → q + 4 ≤ length img
       → out″ ≡ put out (run to 8) (gather img (registerBytes (f ∷ g ∷ [])))
-  two-registers out″ g q second e h =
-      stored-behind img out out′ out″ 4 4 p q to inside h first second
+  read-two out″ g q second e h =
+      read-behind img out out′ out″ 4 4 p q to inside h first second
       ∙ ap₂ (λ (x y : ℕ). put out (run to 8) (gather img (run x 4 ++ run y 4))) at e
 
 -- ---- the body in bytes, and whether they are proper

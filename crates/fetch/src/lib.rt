@@ -63,7 +63,7 @@ fn get_float(image: &[u8], register: usize, out: &mut [u8], to: usize, size: usi
     requires { ⌜ (32 ≤ length (now image)) × (to + size ≤ length (now out)) ⌝ }
     ensures { λ _. ⌜ now (out .exit) ≡ put (now (out .entry)) (run to size) (gather (now (image .entry)) (floatBytes register size)) ⌝ }
 {
-    let even = 4 * register - 32;
+    let even = 4 * register - 32; // the image byte where the register's word starts
     if size == 8 {
         let odd = even + 4;
         block::copy(out, to, image, odd, 4); // the high half, from the odd register

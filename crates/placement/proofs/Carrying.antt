@@ -154,6 +154,7 @@ carrier-low o h = rw (lt-ltb o 16 h)
 carrier-high : (o : ℕ) → 16 ≤ o → carrier o ≡ 32 + o
 carrier-high o h = rw (le-ltb o 16 h)
 
+-- byte i of the word of register j of these
 getD-register : (fs : List ℕ) (j i : ℕ) → j < length fs → i < 4 → getD (registerBytes fs) (4 * j + i) 0 ≡ 16 + 4 * (getD fs j 0 - 12) + i
 getD-register [] j i l h = absurd (omega arith)
 getD-register (f ∷ fs) zero i l h = rw zero-add (List·getD-append (run (16 + 4 * (f - 12)) 4) (registerBytes fs) 0 i h ∙ getD-run 4 (16 + 4 * (f - 12)) i h)
@@ -176,7 +177,7 @@ floats-only (j ∷ []) k h = go (is Float (kindOf j)) (is Float (kindOf k)) h
     go false false h = absurd (omega arith)
 floats-only (j ∷ i ∷ js) k h = absurd (omega arith)
 
-float-width : (k : Kind) → is Float k ≡ true → width k ≡ k .size
+pub float-width : (k : Kind) → is Float k ≡ true → width k ≡ k .size
 float-width k e = rw (eqb-true (classNumber (k .class)) 5 e)
 
 -- ---- the law

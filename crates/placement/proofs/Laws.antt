@@ -24,8 +24,8 @@ use Rattle.o32.specs.declared.Kind.{Kind}
 use Rattle.o32.specs.declared.State.{State}
 use Rattle.o32.specs.declared.Placement.{Placement}
 use Rattle.o32.specs.Kinds.{kindOf}
-use Rattle.o32.specs.Offsets.{extension, offset, ending}
-use Rattle.o32.specs.O32.{register, run, floatRegisters, registerBytes, floatBytes, carrier, carriers, area, misplaced, full, onward, stepped, O32}
+use Rattle.o32.specs.Offsets.{ending}
+use Rattle.o32.specs.O32.{run, floatRegisters, registerBytes, floatBytes, carrier, area, misplaced, full, onward, stepped, O32}
 use Rattle.placement.proofs.KindFacts.{Sound, kind-sound}
 
 -- ---- the next multiple
@@ -113,15 +113,15 @@ length-span n o = length-map (run o n) carrier ∙ length-run n o
 
 -- the register whose word has this byte
 record Holder (fs : List ℕ) (p : ℕ) : Type 0 where
-  register : ℕ
-  one : In register fs
-  inside : (16 + 4 * (register - 12) ≤ p) × (p < 20 + 4 * (register - 12))
+  number : ℕ
+  listed : In number fs
+  inside : (16 + 4 * (number - 12) ≤ p) × (p < 20 + 4 * (number - 12))
 
 holder : (fs : List ℕ) (p : ℕ) → In p (registerBytes fs) → Holder fs p
 holder [] p m = absurd m
 holder (f ∷ fs) p m = in-cases (run (16 + 4 * (f - 12)) 4) (registerBytes fs) p m
-    (λ i. record { register = f; one = inl refl; inside = omega (arith, run-at 4 (16 + 4 * (f - 12)) p i) })
-    (λ i. let h = holder fs p i in record { register = h .register; one = inr (h .one); inside = h .inside })
+    (λ i. record { number = f; listed = inl refl; inside = omega (arith, run-at 4 (16 + 4 * (f - 12)) p i) })
+    (λ i. let h = holder fs p i in record { number = h .number; listed = inr (h .listed); inside = h .inside })
 
 registers-distinct : (fs : List ℕ) → ((f : ℕ) → In f fs → 12 ≤ f) → Distinct fs → Distinct (registerBytes fs)
 registers-distinct [] h d = tt
@@ -129,8 +129,8 @@ registers-distinct (f ∷ fs) h d = distinct-append (run (16 + 4 * (f - 12)) 4) 
     (registers-distinct fs (λ g i. h g (inr i)) (d .1))
     (λ p i j.
     let w = holder fs p j in
-    let e : w .register ≡ f = omega (arith, w .inside, run-at 4 (16 + 4 * (f - 12)) p i, h f (inl refl), h (w .register) (inr (w .one))) in
-    d .0 (subst (λ (g : ℕ). In g fs) e (w .one)))
+    let e : w .number ≡ f = omega (arith, w .inside, run-at 4 (16 + 4 * (f - 12)) p i, h f (inl refl), h (w .number) (inr (w .listed))) in
+    d .0 (subst (λ (g : ℕ). In g fs) e (w .listed)))
 
 -- those of a float: its register, or the two of the pair, in whichever order
 float-registers : (f size g : ℕ) → (size ≡ 4) ⊎ (size ≡ 8) → In g (floatRegisters f size) → (f ≤ g) × (g ≤ f + 1)
@@ -145,7 +145,7 @@ float-distinct f size h z = registers-distinct (floatRegisters f size) (λ g i. 
     go (inr e) = rw e ((λ m. elim m [ inl x ↦ omega arith | inr x ↦ x ]), (absurd, tt))
 
 pub float-at : (f size p : ℕ) → 12 ≤ f → (size ≡ 4) ⊎ (size ≡ 8) → In p (floatBytes f size) → (16 + 4 * (f - 12) ≤ p) × (p < 24 + 4 * (f - 12))
-float-at f size p h z m = let w = holder (floatRegisters f size) p m in omega (arith, w .inside, float-registers f size (w .register) z (w .one))
+float-at f size p h z m = let w = holder (floatRegisters f size) p m in omega (arith, w .inside, float-registers f size (w .number) z (w .listed))
 
 pub length-float : (f size : ℕ) → (size ≡ 4) ⊎ (size ≡ 8) → length (floatBytes f size) ≡ size
 length-float f size (inl e) = rw e refl

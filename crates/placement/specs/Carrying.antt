@@ -31,7 +31,10 @@ pub record CarriedAt (before : List ℕ) (k : ℕ) (s : Placed) : Type 0 where
       → getD (s .carriers) i 0 ≡ o + i
   pub high : registerBehind before k ≡ 0 → (o i : ℕ) → o ≡ offset (kindOf k) (endOf 0 before) → i < length (s .carriers) → 16 ≤ o + i
       → getD (s .carriers) i 0 ≡ 32 + (o + i)
-  pub single : (f : ℕ) → registerBehind before k ≡ f → 1 ≤ f → kindOf k .size ≡ 4 → (i : ℕ) → i < 4 → getD (s .carriers) i 0 ≡ 16 + 4 * (f - 12) + i
-  -- of a double (request (i)) the first four bytes in the odd register, the next four in the even one
-  pub odd : (f : ℕ) → registerBehind before k ≡ f → 1 ≤ f → kindOf k .size ≡ 8 → (i : ℕ) → i < 4 → getD (s .carriers) i 0 ≡ 16 + 4 * (f + 1 - 12) + i
-  pub even : (f : ℕ) → registerBehind before k ≡ f → 1 ≤ f → kindOf k .size ≡ 8 → (i : ℕ) → i < 4 → getD (s .carriers) (4 + i) 0 ≡ 16 + 4 * (f - 12) + i
+  pub single : (f : ℕ) → registerBehind before k ≡ f → 1 ≤ f → kindOf k .size ≡ 4
+      → (i : ℕ) → i < 4 → getD (s .carriers) i 0 ≡ 16 + 4 * (f - 12) + i
+  -- of a double, as request (i) of document 02 mends rule 3: the first four bytes in the odd register, the next four in the even one
+  pub odd : (f : ℕ) → registerBehind before k ≡ f → 1 ≤ f → kindOf k .size ≡ 8
+      → (i : ℕ) → i < 4 → getD (s .carriers) i 0 ≡ 16 + 4 * (f + 1 - 12) + i
+  pub even : (f : ℕ) → registerBehind before k ≡ f → 1 ≤ f → kindOf k .size ≡ 8
+      → (i : ℕ) → i < 4 → getD (s .carriers) (4 + i) 0 ≡ 16 + 4 * (f - 12) + i

@@ -22,7 +22,7 @@ const END_LIMIT: usize = 1024;
 pub(crate) struct Placement {
     /// Image offset of the argument's first byte.
     start: usize,
-    /// How many bytes lie there.
+    /// How many bytes lie there; the others begin at `rest`.
     together: usize,
 }
 
@@ -54,9 +54,11 @@ impl Placement {
         }
     }
 
-    /// Image offset of the bytes that don't lie together with the first.
+    /// Image offset of the bytes that don't lie with the first ones: the even
+    /// register for a double that begins in the odd one, else the stack. A
+    /// single has no such bytes.
     fn rest(&self) -> usize {
-        if (GENERAL_BYTES..REGISTER_BYTES).contains(&self.start) {
+        if (FLOATING_PAIRS[0]..REGISTER_BYTES).contains(&self.start) {
             self.start - 4
         } else {
             STACK_START
@@ -67,18 +69,14 @@ impl Placement {
     pub(crate) fn put(&self, bytes: &[u8], image: &mut [u8]) {
         let (here, rest) = bytes.split_at(self.together);
         copy(here, &mut image[self.start..]);
-        if !rest.is_empty() {
-            copy(rest, &mut image[self.rest()..]);
-        }
+        copy(rest, &mut image[self.rest()..]);
     }
 
     /// Gets the argument's bytes from where the image carries them.
     pub(crate) fn get(&self, image: &[u8], bytes: &mut [u8]) {
         let (here, rest) = bytes.split_at_mut(self.together);
         copy_all(&image[self.start..], here);
-        if !rest.is_empty() {
-            copy_all(&image[self.rest()..], rest);
-        }
+        copy_all(&image[self.rest()..], rest);
     }
 }
 

@@ -1,10 +1,11 @@
--- `block::put_float` meets its contract: a single is stored into the word of its register, a double into two, in their order.
+-- `block::put_float` meets its contract: a single is stored into the word of its register, a double
+-- into those of two registers, in the order of its bytes.
 -- Assumes nothing.
 use mathlib.Core.Path.{_≡_}
 use native.Mathlib.Omega.{arith}
 use denote.Ref.{now}
 use lib.ListN.{length}
-use Rattle.block.proofs.Floats.{bounds, single, one-register, two-registers}
+use Rattle.block.proofs.Floats.{bounds, single-size, one-register, two-registers}
 use borrow.Author.Needs.{needs}
 use Rattle.block.proofs.put_float.Statement.{statement}
 use Rattle.block.proofs.put_float.Tie as tie
@@ -56,7 +57,7 @@ returns-2 c =
     let s = c .before .before .before in
     let words : length (s .args .block) ≡ 8 = omega (arith, s .good) in
     let inside = bounds (s .pre .0) in
-    rw (single (s .pre .0) (c .if1 .left))
+    rw (single-size (s .pre .0) (c .if1 .left))
     (one-register (s .args .block) (now (s .args .src)) words (s .args .at) _ _ _ (omega arith) (omega arith) (omega arith) (c .before .word-at .ensures))
 
 pub put-float-spec : {M : Type 1} → statement M

@@ -1,10 +1,11 @@
--- `fetch::get_float` meets its contract: a single is read from the word of its register, a double from two, in their order.
+-- `fetch::get_float` meets its contract: a single is read from the word of its register, a double
+-- from those of two registers, in the order of its bytes.
 -- Assumes nothing.
 use Prim.Native.Nat.{_+_, _-_, _*_}
 use native.Mathlib.Omega.{arith}
 use denote.Ref.{now}
-use Rattle.block.proofs.Floats.{bounds, single}
-use Rattle.fetch.proofs.Parts.{one-register, two-registers}
+use Rattle.block.proofs.Floats.{bounds, single-size}
+use Rattle.fetch.proofs.Parts.{read-one, read-two}
 use borrow.Author.Needs.{needs}
 use Rattle.fetch.proofs.get_float.Statement.{statement}
 use Rattle.fetch.proofs.get_float.Tie as tie
@@ -37,7 +38,7 @@ returns c =
     let even = 4 * f - 32 in
     let inside = bounds (s .pre .0) in
     rw (c .before .before .before .before .before .before .before .before .if1 .taken)
-    (two-registers (now (s .args .image)) (now (s .args .out)) _ (f + 1) (even + 4) (s .args .to) (c .before .before .before .before .before .before .copy .ensures) (omega arith) (omega arith)
+    (read-two (now (s .args .image)) (now (s .args .out)) _ (f + 1) (even + 4) (s .args .to) (c .before .before .before .before .before .before .copy .ensures) (omega arith) (omega arith)
     _ f even (c .before .before .copy2 .ensures) (omega arith) (omega arith))
 
 copy-requires-3 : tie.Need-copy-requires-3
@@ -51,8 +52,8 @@ returns-2 c =
     let s = c .before .before .before .before .before .before .before in
     let f = s .args .register in
     let inside = bounds (s .pre .0) in
-    rw (single (s .pre .0) (c .before .before .before .before .if1 .left))
-    (one-register (now (s .args .image)) (now (s .args .out)) _ f (4 * f - 32) (s .args .to) (c .before .before .copy3 .ensures) (omega arith) (omega arith))
+    rw (single-size (s .pre .0) (c .before .before .before .before .if1 .left))
+    (read-one (now (s .args .image)) (now (s .args .out)) _ f (4 * f - 32) (s .args .to) (c .before .before .copy3 .ensures) (omega arith) (omega arith))
 
 pub get-float-spec : {M : Type 1} → statement M
 get-float-spec =
