@@ -28,6 +28,19 @@
  * hexadecimal here.
  *
  *
+ * DEVICES
+ *
+ * The first parameter of every function is the device, the board that the call
+ * or the frame is for:
+ *
+ *   0  O32_FPU      it has a floating-point unit
+ *   1  O32_NO_FPU   it has none
+ *
+ * Any other number is a device without a floating-point unit too. No device is
+ * refused. On a device without a unit no argument goes to a floating register,
+ * and a frame can't save one.
+ *
+ *
  * LISTS
  *
  * A list is records end to end. A record is one byte of kind and a body, whose
@@ -76,19 +89,22 @@
  * at 1,024 and not beyond. A is that end rounded up to 8, and at least 16; so
  * an image has 48 to 1,056 bytes.
  *
- *   - If the first argument is a float, it goes to $f12, and if the second is
- *     one too and no marker stands before it, that one goes to $f14. A double
- *     takes $f12,$f13 or $f14,$f15: the even register holds its low half, the
- *     last four bytes, and the odd one its high half, the first four. So 1.0
- *     gives $f12 = 00000000, $f13 = 3FF00000. A return pointer counts as the
- *     first argument.
+ *   - Only with a floating-point unit: if the first argument is a float, it
+ *     goes to $f12, and if the second is one too and no marker stands before
+ *     it, that one goes to $f14. A double takes $f12,$f13 or $f14,$f15: the
+ *     even register holds its low half, the last four bytes, and the odd one
+ *     its high half, the first four. So 1.0 gives $f12 = 00000000,
+ *     $f13 = 3FF00000. A return pointer counts as the first argument.
  *   - Of all others, what lies at an offset o below 16 goes to register
  *     $4 + o/4, and what lies at 16 or above stays in the area at offset o. A
- *     structure may be split so.
+ *     structure may be split so. Without a floating-point unit every argument
+ *     goes this way: a double, a single and a double go to $4 and $5, to $6,
+ *     and to the area at offset 16. A double lies in the order of its bytes.
  *
  * Whatever carries nothing is zero in an image that o32_write makes: unused
  * registers, holes, fill, and the area's first 16 bytes, the homes of the
- * register words. o32_read ignores such bytes.
+ * register words. o32_read ignores such bytes. Without a floating-point unit
+ * the four words $f12 to $f15 carry nothing, whatever the arguments are.
  *
  *
  * REFUSALS OF o32_write AND o32_read
@@ -123,11 +139,11 @@
  *   general   mask of general registers to save: bit k is $k, of $16 to $23,
  *             $30 and $31. A function that is no leaf must save $31.
  *   pairs     mask of floating pairs to save: bit k, from 0 to 5, is $f20 + 2k
- *             and the register behind it
+ *             and the register behind it; 0 without a floating-point unit
  *
  * From $sp upward a frame holds
  *
- *   the argument build area   outgoing rounded up to 8, at least 16; 0 in a leaf
+ *   the argument build area   outgoing rounded up to 8, 16 or more; 0 in a leaf
  *   the floating save area    8 bytes for each pair
  *   the general save area     4 bytes for each register, rounded up to 8
  *   the locals
@@ -145,6 +161,7 @@
  *
  *   no.  meaning
  *    9   the general mask names another register, or the pair mask is above 63
+ *   14   the pair mask isn't 0, and the device has no floating-point unit
  *   10   not a leaf, and $31 isn't named
  *   11   locals above 16,384
  *   12   outgoing above 1,024, or not 0 in a leaf
@@ -160,6 +177,10 @@
 #ifdef __cplusplus
 extern "C" {
 #endif
+
+/* The devices. Any other number is a device without a floating-point unit. */
+#define O32_FPU 0u            /* with a floating-point unit */
+#define O32_NO_FPU 1u         /* without one */
 
 /* Sizes of buffers that are always enough. */
 #define O32_LIST_MAX 1057     /* the longest list that is accepted */
@@ -182,7 +203,8 @@ enum o32_refusal {
     O32_RETURN_ADDRESS_NOT_SAVED = 10,
     O32_LOCALS = 11,
     O32_OUTGOING = 12,
-    O32_SHORT_CODE = 13
+    O32_SHORT_CODE = 13,
+    O32_PAIRS_WITHOUT_UNIT = 14
 };
 
 /* What o32_write, o32_read, o32_prologue and o32_epilogue answer. */
@@ -211,7 +233,8 @@ typedef struct {
  * Writes the image of a list. Refuses 1 to 5 and 7. An image buffer of
  * O32_IMAGE_MAX bytes is always enough.
  */
-o32_answer o32_write(const uint8_t *list, size_t list_len,
+o32_answer o32_write(uint32_t device,
+                     const uint8_t *list, size_t list_len,
                      uint8_t *image, size_t image_len);
 
 /*
@@ -220,24 +243,28 @@ o32_answer o32_write(const uint8_t *list, size_t list_len,
  * that of a larger buffer around it. Refuses 1 to 3 and 5 to 8. A list buffer
  * of O32_LIST_MAX bytes is always enough.
  */
-o32_answer o32_read(const uint8_t *signature, size_t signature_len,
+o32_answer o32_read(uint32_t device,
+                    const uint8_t *signature, size_t signature_len,
                     const uint8_t *image, size_t image_len,
                     uint8_t *list, size_t list_len);
 
-/* Lays out a frame. Refuses 9 to 12. */
-o32_layout o32_frame(uint32_t leaf, uint32_t locals, uint32_t outgoing,
+/* Lays out a frame. Refuses 9 to 12 and 14. */
+o32_layout o32_frame(uint32_t device,
+                     uint32_t leaf, uint32_t locals, uint32_t outgoing,
                      uint32_t general, uint32_t pairs);
 
 /*
  * Writes a frame's prologue as instruction words. `code_len` and the answered
- * length count bytes. Refuses 9 to 13.
+ * length count bytes. Refuses 9 to 14.
  */
-o32_answer o32_prologue(uint32_t leaf, uint32_t locals, uint32_t outgoing,
+o32_answer o32_prologue(uint32_t device,
+                        uint32_t leaf, uint32_t locals, uint32_t outgoing,
                         uint32_t general, uint32_t pairs,
                         uint8_t *code, size_t code_len);
 
 /* Writes a frame's epilogue, likewise. */
-o32_answer o32_epilogue(uint32_t leaf, uint32_t locals, uint32_t outgoing,
+o32_answer o32_epilogue(uint32_t device,
+                        uint32_t leaf, uint32_t locals, uint32_t outgoing,
                         uint32_t general, uint32_t pairs,
                         uint8_t *code, size_t code_len);
 

@@ -61,6 +61,13 @@ static int is_answer(o32_answer answer, uint32_t refusal, uint32_t place,
            answer.length == length;
 }
 
+static int is_refused(o32_layout layout, uint32_t refusal)
+{
+    return layout.refusal == refusal && layout.place == 0 &&
+           layout.frame == 0 && layout.build == 0 && layout.floating == 0 &&
+           layout.general == 0 && layout.locals == 0;
+}
+
 static uint32_t word_at(const uint8_t *bytes, size_t index)
 {
     const uint8_t *b = bytes + 4 * index;
@@ -96,7 +103,8 @@ static void call_image(void)
 
     uint8_t *given = copy_of(list, sizeof list);
     uint8_t *image = buffer(48);
-    check(is_answer(o32_write(given, sizeof list, image, 48), 0, 0, 48),
+    check(is_answer(o32_write(O32_FPU, given, sizeof list, image, 48), 0, 0,
+                    48),
           "the list is written to an image of 48 bytes");
     print_words("$4 to $7", image, 4);
     print_words("$f12 to $f15", image + 16, 4);
@@ -105,8 +113,8 @@ static void call_image(void)
 
     uint8_t *signature = copy_of(kinds, sizeof kinds);
     uint8_t *reading = buffer(sizeof list);
-    check(is_answer(o32_read(signature, sizeof kinds, image, 48, reading,
-                             sizeof list),
+    check(is_answer(o32_read(O32_FPU, signature, sizeof kinds, image, 48,
+                             reading, sizeof list),
                     0, 0, sizeof list),
           "the image is read back");
     check(memcmp(reading, list, sizeof list) == 0,
@@ -125,18 +133,21 @@ static void call_image(void)
 static void empty_buffers(void)
 {
     uint8_t *image = buffer(48);
-    check(is_answer(o32_write(NULL, 0, image, 48), 0, 0, 48) &&
+    check(is_answer(o32_write(O32_FPU, NULL, 0, image, 48), 0, 0, 48) &&
               all_are(image, 48, 0),
           "the empty list gives 48 zero bytes");
-    check(is_answer(o32_read(NULL, 0, image, 48, NULL, 0), 0, 0, 0),
+    check(is_answer(o32_read(O32_FPU, NULL, 0, image, 48, NULL, 0), 0, 0, 0),
           "which read as the empty list");
-    check(is_answer(o32_write(NULL, 0, NULL, 0), O32_SHORT_OUTPUT, 0, 0),
+    check(is_answer(o32_write(O32_FPU, NULL, 0, NULL, 0), O32_SHORT_OUTPUT, 0,
+                    0),
           "and don't go into an empty buffer");
-    check(is_answer(o32_read(NULL, 0, NULL, 0, NULL, 0), O32_IMAGE_LENGTH, 0, 0),
+    check(is_answer(o32_read(O32_FPU, NULL, 0, NULL, 0, NULL, 0),
+                    O32_IMAGE_LENGTH, 0, 0),
           "no image has length 0");
-    check(is_answer(o32_prologue(1, 0, 0, 0, 0, NULL, 0), 0, 0, 0),
+    check(is_answer(o32_prologue(O32_FPU, 1, 0, 0, 0, 0, NULL, 0), 0, 0, 0),
           "a leaf without a frame has an empty prologue");
-    check(is_answer(o32_epilogue(1, 0, 0, 0, 0, NULL, 0), O32_SHORT_CODE, 0, 0),
+    check(is_answer(o32_epilogue(O32_FPU, 1, 0, 0, 0, 0, NULL, 0),
+                    O32_SHORT_CODE, 0, 0),
           "but no empty epilogue");
     free(image);
 }
@@ -149,8 +160,8 @@ static void refusals(void)
 
     uint8_t *given = copy_of(list, sizeof list);
     uint8_t *image = buffer(48);
-    check(is_answer(o32_write(given, sizeof list, image, 48), O32_BODY_CUT_OFF,
-                    2, 0) &&
+    check(is_answer(o32_write(O32_FPU, given, sizeof list, image, 48),
+                    O32_BODY_CUT_OFF, 2, 0) &&
               all_are(image, 48, 0xA5),
           "a list that is cut off is refused, the image buffer stays");
 
@@ -158,7 +169,7 @@ static void refusals(void)
     image[3] = 0x80;
     uint8_t *signature = copy_of(kinds, sizeof kinds);
     uint8_t *reading = buffer(2);
-    check(is_answer(o32_read(signature, 1, image, 48, reading, 2),
+    check(is_answer(o32_read(O32_FPU, signature, 1, image, 48, reading, 2),
                     O32_NO_PROMOTION, 0, 0) &&
               all_are(reading, 2, 0xA5),
           "00000080 is no signed byte, the list buffer stays");
@@ -177,7 +188,7 @@ static void example_frame(void)
                                         0x27BD0020};
     const uint32_t general = UINT32_C(1) << 16 | UINT32_C(1) << 31;
 
-    o32_layout layout = o32_frame(0, 4, 0, general, 0);
+    o32_layout layout = o32_frame(O32_FPU, 0, 4, 0, general, 0);
     printf("frame %lu: build area of %lu, saves at %lu and %lu, locals at %lu\n",
            (unsigned long)layout.frame, (unsigned long)layout.build,
            (unsigned long)layout.floating, (unsigned long)layout.general,
@@ -188,25 +199,112 @@ static void example_frame(void)
           "the frame is laid out as expected");
 
     uint8_t *code = buffer(12);
-    check(is_answer(o32_prologue(0, 4, 0, general, 0, code, 12), 0, 0, 12) &&
+    check(is_answer(o32_prologue(O32_FPU, 0, 4, 0, general, 0, code, 12), 0, 0,
+                    12) &&
               are_words(code, prologue, 3),
           "the prologue is as expected");
     print_words("prologue", code, 3);
     free(code);
 
     code = buffer(16);
-    check(is_answer(o32_epilogue(0, 4, 0, general, 0, code, 16), 0, 0, 16) &&
+    check(is_answer(o32_epilogue(O32_FPU, 0, 4, 0, general, 0, code, 16), 0, 0,
+                    16) &&
               are_words(code, epilogue, 4),
           "the epilogue is as expected");
     print_words("epilogue", code, 4);
     free(code);
 
-    layout = o32_frame(0, 4, 0, UINT32_C(1) << 16, 0);
-    check(layout.refusal == O32_RETURN_ADDRESS_NOT_SAVED && layout.place == 0 &&
-              layout.frame == 0 && layout.build == 0 && layout.floating == 0 &&
-              layout.general == 0 && layout.locals == 0,
+    layout = o32_frame(O32_FPU, 0, 4, 0, UINT32_C(1) << 16, 0);
+    check(is_refused(layout, O32_RETURN_ADDRESS_NOT_SAVED),
           "without $31 the frame is refused");
-    check(o32_frame(2, 0, 0, 0, 0).refusal == 0, "any leaf but 0 is a leaf");
+    check(o32_frame(O32_FPU, 2, 0, 0, 0, 0).refusal == 0,
+          "any leaf but 0 is a leaf");
+}
+
+/* A double, a single and a double. */
+static const uint8_t floats[] = {0x08, 1,    2,    3,    4,    5,    6,    7,
+                                 8,    0x07, 0x11, 0x12, 0x13, 0x14, 0x08, 0x21,
+                                 0x22, 0x23, 0x24, 0x25, 0x26, 0x27, 0x28};
+static const uint8_t float_kinds[] = {0x08, 0x07, 0x08};
+
+/* The floats on a device: 32 bytes of registers and 24 of area. */
+static void check_floats(uint32_t device, const uint32_t *words,
+                         const char *what)
+{
+    uint8_t *given = copy_of(floats, sizeof floats);
+    uint8_t *image = buffer(56);
+    check(is_answer(o32_write(device, given, sizeof floats, image, 56), 0, 0,
+                    56) &&
+              are_words(image, words, 14),
+          what);
+    free(image);
+    free(given);
+}
+
+/* Without a floating-point unit the floating words of an image are ignored. */
+static void check_reading(uint32_t device, const uint32_t *words,
+                          const char *what)
+{
+    uint8_t *signature = copy_of(float_kinds, sizeof float_kinds);
+    uint8_t *image = buffer(56);
+    for (size_t i = 0; i < 56; i++) {
+        image[i] = (uint8_t)(words[i / 4] >> (24 - 8 * (i % 4)));
+    }
+    memset(image + 16, 0xFF, 16);
+    uint8_t *reading = buffer(sizeof floats);
+    check(is_answer(o32_read(device, signature, sizeof float_kinds, image, 56,
+                             reading, sizeof floats),
+                    0, 0, sizeof floats) &&
+              memcmp(reading, floats, sizeof floats) == 0,
+          what);
+    free(reading);
+    free(image);
+    free(signature);
+}
+
+/* Any number but O32_FPU is a device without a floating-point unit. */
+static void devices(void)
+{
+    static const uint32_t with_unit[14] = {
+        0, 0, 0, 0, 0x05060708, 0x01020304, 0x11121314, 0,
+        0, 0, 0, 0, 0x21222324, 0x25262728};
+    static const uint32_t without_unit[14] = {
+        0x01020304, 0x05060708, 0x11121314, 0, 0, 0, 0, 0,
+        0, 0, 0, 0, 0x21222324, 0x25262728};
+    const uint32_t other = UINT32_C(0xFFFFFFFF);
+    const uint32_t general = UINT32_C(1) << 31;
+
+    check_floats(O32_FPU, with_unit,
+                 "with a unit two floats are in $f12 to $f14, the third at 16");
+    check_floats(O32_NO_FPU, without_unit,
+                 "without one they are in $4, $5 and $6, the third at 16");
+    check_floats(other, without_unit, "any other device has no unit");
+    check_reading(O32_NO_FPU, without_unit,
+                  "without a unit the floating words are ignored");
+    check_reading(other, without_unit, "on any other device too");
+
+    check(o32_frame(O32_FPU, 0, 0, 0, general, 1).refusal == 0,
+          "a frame with a unit may save a pair");
+    check(is_refused(o32_frame(O32_NO_FPU, 0, 0, 0, general, 1),
+                     O32_PAIRS_WITHOUT_UNIT) &&
+              is_refused(o32_frame(other, 0, 0, 0, general, 1),
+                         O32_PAIRS_WITHOUT_UNIT),
+          "without a unit it may not");
+    check(is_refused(o32_frame(O32_NO_FPU, 0, 0, 0, 0, 63),
+                     O32_PAIRS_WITHOUT_UNIT) &&
+              is_refused(o32_frame(O32_NO_FPU, 0, 0, 0, 0, 64), O32_MASKS),
+          "which is refused before $31 is asked for, and behind a wrong mask");
+
+    uint8_t *code = buffer(O32_EPILOGUE_MAX);
+    check(is_answer(o32_prologue(O32_NO_FPU, 0, 0, 0, general, 1, code,
+                                 O32_EPILOGUE_MAX),
+                    O32_PAIRS_WITHOUT_UNIT, 0, 0) &&
+              is_answer(o32_epilogue(O32_NO_FPU, 0, 0, 0, general, 1, code,
+                                     O32_EPILOGUE_MAX),
+                        O32_PAIRS_WITHOUT_UNIT, 0, 0) &&
+              all_are(code, O32_EPILOGUE_MAX, 0xA5),
+          "nor is there a prologue or an epilogue, the code buffer stays");
+    free(code);
 }
 
 int main(void)
@@ -215,6 +313,7 @@ int main(void)
     empty_buffers();
     refusals();
     example_frame();
+    devices();
     printf("%d passed, %d failed\n", passed, failed);
     return failed == 0 ? EXIT_SUCCESS : EXIT_FAILURE;
 }

@@ -10,6 +10,7 @@ use lib.ListN.{length, drop, length-append}
 use lib.Dec.{eqb, ltb}
 use borrow.Author.Tests.{eq-eqb, ne-eqb, lt-ltb, le-ltb, ltb-true, ltb-false}
 use Rattle.words.specs.Words.{body, proper}
+use Rattle.device.specs.declared.Device.{Device}
 use Rattle.carried.specs.Image as C
 use Rattle.carried.specs.Image.{gather, Placed, reading}
 use Rattle.carried.specs.Convention.{Plan, bad, good, plan, readUnder, read}
@@ -30,12 +31,12 @@ use Rattle.answers.specs.Answers.{answerOf, bufferOf}
 use Rattle.call.specs.Answers.{readInto, readWith}
 
 -- the length of a reading is that of its records
-reading-length : {st last : State} {ks : List ℕ} {L : List Placed} → Walk O32 O32-laws st ks L last → (img : List ℕ) → length (reading L img) ≡ listLength L
-reading-length end img = refl
-reading-length (one {st = st} {st′ = st′} {k = k} {p = p} {L = L} e f w) img =
-    let s : Placed = O32 .placedAt k p in
-    let b : length (body (s .size) (gather img (s .carriers))) ≡ s .size = length-body s img (fits-carriers s (sized-at O32 O32-laws {st = st} {k = k} e)) in
-    ap suc (length-append (body (s .size) (gather img (s .carriers))) (reading L img) ∙ ap₂ (λ (x y : ℕ). x + y) b (reading-length w img))
+reading-length : (d : Device) {st last : State} {ks : List ℕ} {L : List Placed} → Walk (O32 d) (O32-laws d) st ks L last → (img : List ℕ) → length (reading L img) ≡ listLength L
+reading-length d end img = refl
+reading-length d (one {st = st} {st′ = st′} {k = k} {p = p} {L = L} e f w) img =
+    let s : Placed = O32 d .placedAt k p in
+    let b : length (body (s .size) (gather img (s .carriers))) ≡ s .size = length-body s img (fits-carriers s (sized-at (O32 d) (O32-laws d) {st = st} {k = k} e)) in
+    ap suc (length-append (body (s .size) (gather img (s .carriers))) (reading L img) ∙ ap₂ (λ (x y : ℕ). x + y) b (reading-length d w img))
 
 -- refusal 8 by the first improper record
 abbrev judged : ℕ → List Placed → List ℕ → C.Answer → Checked → Type 0
@@ -55,59 +56,60 @@ judged-by : (L : List Placed) (img : List ℕ) (a : C.Answer) (q : Checked) → 
 judged-by L img a q e = rw e (judge L img 0 a)
 
 -- the first pass has accepted the signature, n is the list's length, and the image is as long as it says
-pub record Found (sig img : List ℕ) (n : ℕ) : Type 0 where
-  pub readable : Readable sig img
+pub record Found (d : Device) (sig img : List ℕ) (n : ℕ) : Type 0 where
+  pub readable : Readable d sig img
   pub long : n ≡ length (reading (readable .placed) img)
 
-pub found : (sig img : List ℕ) (n last-end m : ℕ) → M.Accepted n last-end ≡ measured (plan O32 false sig) → m ≡ 32 + area last-end → length img ≡ m → Found sig img n
-found sig img n last-end m e g l = go (plan O32 false sig) refl e
+pub found : (d : Device) (sig img : List ℕ) (n last-end m : ℕ) → ((x : Device) → M.Accepted n last-end ≡ measured (plan (O32 x) false sig)) → m ≡ 32 + area last-end → length img ≡ m
+    → Found d sig img n
+found d sig img n last-end m e g l = go (plan (O32 d) false sig) refl (e d)
   where
-    go : (q : Plan State) → plan O32 false sig ≡ q → M.Accepted n last-end ≡ measured q → Found sig img n
+    go : (q : Plan State) → plan (O32 d) false sig ≡ q → M.Accepted n last-end ≡ measured q → Found d sig img n
     go (bad r at) f h = let z : _≡_ {A = ℕ} 0 1 = cc in absurd (omega arith)
     go (good L st) f h =
         let i : last-end ≡ st .end = cc in
         let k : n ≡ listLength L = cc in
         record {
           readable = record { placed = L; last = st; planned = f; whole = l ∙ g ∙ ap (λ (x : ℕ). 32 + area x) i };
-          long = k ∙ sym (reading-length (walk-of O32 O32-laws sig (O32 .start) L st 0 f) img);
+          long = k ∙ sym (reading-length d (walk-of (O32 d) (O32-laws d) sig (O32 d .start) L st 0 f) img);
         }
 
 done-answer : (n : ℕ) (x : List ℕ) (a : C.Answer) → n ≡ length x → a ≡ C.done x → record { refusal = 0; place = 0; length = n } ≡ answerOf a
 done-answer n x a e g = rw (g, e) refl
 
-pub record Right (sig img out : List ℕ) (a : Answer) (o : List ℕ) : Type 0 where
-  pub answer : a ≡ answerOf (readInto sig img (length out))
-  pub buffer : o ≡ bufferOf (readInto sig img (length out)) out
+pub record Right (d : Device) (sig img out : List ℕ) (a : Answer) (o : List ℕ) : Type 0 where
+  pub answer : a ≡ answerOf (readInto d sig img (length out))
+  pub buffer : o ≡ bufferOf (readInto d sig img (length out)) out
 
-module _ (sig img out : List ℕ) where
-  pub read-refused : (m : Measured) (r p : ℕ) (a : Answer) → m ≡ measured (plan O32 false sig) → m ≡ M.Refused r p → a ≡ record { refusal = r; place = p; length = 0 } → Right sig img out a out
-  read-refused m r p a e g i = go (plan O32 false sig) refl (sym g ∙ e)
+module _ (d : Device) (sig img out : List ℕ) where
+  pub read-refused : (m : Measured) (r p : ℕ) (a : Answer) → m ≡ measured (plan (O32 d) false sig) → m ≡ M.Refused r p → a ≡ record { refusal = r; place = p; length = 0 } → Right d sig img out a out
+  read-refused m r p a e g i = go (plan (O32 d) false sig) refl (sym g ∙ e)
     where
-      go : (q : Plan State) → plan O32 false sig ≡ q → M.Refused r p ≡ measured q → Right sig img out a out
+      go : (q : Plan State) → plan (O32 d) false sig ≡ q → M.Refused r p ≡ measured q → Right d sig img out a out
       go (bad r′ p′) f h =
           let x : r ≡ r′ = cc in
           let y : p ≡ p′ = cc in
           record { answer = i ∙ rw (f, x, y); buffer = rw f }
       go (good L st) f h = let z : _≡_ {A = ℕ} 0 1 = cc in absurd (omega arith)
 
-  pub read-wrong : (long last-end n : ℕ) → M.Accepted long last-end ≡ measured (plan O32 false sig) → n ≡ 32 + area last-end → (length img ≡ n → ⊥) → Right sig img out (record { refusal = 6; place = 0; length = 0 }) out
-  read-wrong long last-end n e g l = go (plan O32 false sig) refl e
+  pub read-wrong : (long last-end n : ℕ) → M.Accepted long last-end ≡ measured (plan (O32 d) false sig) → n ≡ 32 + area last-end → (length img ≡ n → ⊥) → Right d sig img out (record { refusal = 6; place = 0; length = 0 }) out
+  read-wrong long last-end n e g l = go (plan (O32 d) false sig) refl e
     where
-      go : (q : Plan State) → plan O32 false sig ≡ q → M.Accepted long last-end ≡ measured q → Right sig img out (record { refusal = 6; place = 0; length = 0 }) out
+      go : (q : Plan State) → plan (O32 d) false sig ≡ q → M.Accepted long last-end ≡ measured q → Right d sig img out (record { refusal = 6; place = 0; length = 0 }) out
       go (bad r at) f h = let z : _≡_ {A = ℕ} 0 1 = cc in absurd (omega arith)
       go (good L st) f h =
           let i : last-end ≡ st .end = cc in
           let k : eqb (length img) (32 + area (st .end)) ≡ false = ne-eqb (length img) (32 + area (st .end)) (λ x. l (x ∙ sym (g ∙ ap (λ (y : ℕ). 32 + area y) i))) in
           record { answer = rw (f, k); buffer = rw (f, k) }
 
-  module _ (n : ℕ) (v : Found sig img n) where
-    abbrev w : Readable sig img
+  module _ (n : ℕ) (v : Found d sig img n) where
+    abbrev w : Readable d sig img
     w = v .readable
 
     same-length : eqb (length img) (32 + area (w .last .end)) ≡ true
     same-length = eq-eqb (length img) (32 + area (w .last .end)) (w .whole)
 
-    pub read-short : length out < n → Right sig img out (record { refusal = 7; place = 0; length = 0 }) out
+    pub read-short : length out < n → Right d sig img out (record { refusal = 7; place = 0; length = 0 }) out
     read-short l =
         let k : ltb (length out) (length (reading (w .placed) img)) ≡ true = lt-ltb (length out) (length (reading (w .placed) img)) (omega (arith, v .long)) in
         record { answer = rw (w .planned, same-length, k); buffer = rw (w .planned, same-length, k) }
@@ -117,7 +119,7 @@ module _ (sig img out : List ℕ) where
       enough = le-ltb (length out) (length (reading (w .placed) img)) (omega (arith, v .long))
 
       abbrev list : List ℕ
-      list = readingIn (plan O32 false sig) img
+      list = readingIn (plan (O32 d) false sig) img
 
       pub read-room : length list ≤ length out
       read-room = rw (w .planned) (omega (arith, v .long))
@@ -126,20 +128,20 @@ module _ (sig img out : List ℕ) where
       abbrev left : Checked → List ℕ
       left q = delivered q (list ++ drop (length list) out) out
 
-      pub read-improper : (q : Checked) (p : ℕ) (a : Answer) (o : List ℕ) → q ≡ improperIn (plan O32 false sig) img → o ≡ left (improperIn (plan O32 false sig) img)
-          → q ≡ K.Improper p → a ≡ record { refusal = 8; place = p; length = 0 } → Right sig img out a o
+      pub read-improper : (q : Checked) (p : ℕ) (a : Answer) (o : List ℕ) → q ≡ improperIn (plan (O32 d) false sig) img → o ≡ left (improperIn (plan (O32 d) false sig) img)
+          → q ≡ K.Improper p → a ≡ record { refusal = 8; place = p; length = 0 } → Right d sig img out a o
       read-improper q p a o i l j k =
           let c : C.checked 0 (w .placed) img (C.done (reading (w .placed) img)) ≡ C.refused 8 p =
           rw j at (judged-by (w .placed) img (C.done (reading (w .placed) img)) q (i ∙ rw (w .planned))) in
           record { answer = k ∙ rw (w .planned, same-length, enough, c); buffer = l ∙ ap left (sym i ∙ j) ∙ rw (w .planned, same-length, enough, c) }
 
-      pub read-done : (q : Checked) (o : List ℕ) → q ≡ improperIn (plan O32 false sig) img → o ≡ left (improperIn (plan O32 false sig) img) → q ≡ K.Proper
-          → Right sig img out (record { refusal = 0; place = 0; length = n }) o
+      pub read-done : (q : Checked) (o : List ℕ) → q ≡ improperIn (plan (O32 d) false sig) img → o ≡ left (improperIn (plan (O32 d) false sig) img) → q ≡ K.Proper
+          → Right d sig img out (record { refusal = 0; place = 0; length = n }) o
       read-done q o i l j =
           let c : C.checked 0 (w .placed) img (C.done (reading (w .placed) img)) ≡ C.done (reading (w .placed) img) =
           rw j at (judged-by (w .placed) img (C.done (reading (w .placed) img)) q (i ∙ rw (w .planned))) in
           record {
-            answer = done-answer n (reading (w .placed) img) (readInto sig img (length out)) (v .long) (rw (w .planned, same-length, enough, c));
+            answer = done-answer n (reading (w .placed) img) (readInto d sig img (length out)) (v .long) (rw (w .planned, same-length, enough, c));
             buffer = l ∙ ap left (sym i ∙ j) ∙ rw (w .planned, same-length, enough, c);
           }
 
@@ -149,12 +151,12 @@ module _ (sig img out : List ℕ) where
 passes : (L : List Placed) (img : List ℕ) (at : ℕ) (y x : List ℕ) → C.checked at L img (C.done y) ≡ C.done x → y ≡ x
 passes L img at y x e = subst (λ (a : C.Answer). Passed L img a y) e (checked-passes L img y at) .1
 
-pub read-is : (sig img x : List ℕ) (room : ℕ) → (readInto sig img room ≡ C.done x) ↔ ((read O32 sig img ≡ C.done x) × (length x ≤ room))
-read-is sig img x room = go (plan O32 false sig)
+pub read-is : (d : Device) (sig img x : List ℕ) (room : ℕ) → (readInto d sig img room ≡ C.done x) ↔ ((read (O32 d) sig img ≡ C.done x) × (length x ≤ room))
+read-is d sig img x room = go (plan (O32 d) false sig)
   where
-    go : (q : Plan State) → (readWith img room q ≡ C.done x) ↔ ((readUnder O32 img q ≡ C.done x) × (length x ≤ room))
+    go : (q : Plan State) → (readWith d img room q ≡ C.done x) ↔ ((readUnder (O32 d) img q ≡ C.done x) × (length x ≤ room))
     go (bad r at) = ((λ e. let z : _≡_ {A = ℕ} 0 1 = cc in absurd (omega arith)), λ h. h .0)
-    go (good L st) = tests (eqb (length img) (O32 .imageLength st)) (ltb room (length (reading L img))) refl
+    go (good L st) = tests (eqb (length img) (O32 d .imageLength st)) (ltb room (length (reading L img))) refl
       where
         tests : (t u : Bool) → ltb room (length (reading L img)) ≡ u
             → (cond t (cond u (C.refused 7 0) (C.checked 0 L img (C.done (reading L img)))) (C.refused 6 0) ≡ C.done x)

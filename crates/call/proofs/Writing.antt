@@ -9,6 +9,7 @@ use native.Mathlib.Omega.{arith}
 use lib.ListN.{length, drop, replicate, length-replicate}
 use lib.Dec.{leb, ltb}
 use borrow.Author.Tests.{lt-ltb, le-ltb, leb-true, ltb-false}
+use Rattle.device.specs.declared.Device.{Device}
 use Rattle.carried.specs.Image as C
 use Rattle.carried.specs.Image.{carried, promotedBytes, image}
 use Rattle.carried.specs.Convention.{Plan, bad, good, plan, write}
@@ -25,49 +26,50 @@ use Rattle.writer.specs.Filling.{Fillable, imageIn}
 use Rattle.answers.specs.Answers.{answerOf, bufferOf, within}
 use Rattle.call.specs.Answers.{writeInto}
 
--- the first pass has found an image's length
-pub fillable : (list : List ℕ) (long end n : ℕ) → M.Accepted long end ≡ measured (plan O32 true list) → n ≡ 32 + area end → Fillable list n
-fillable list long end n e g = go (plan O32 true list) refl e
+-- the first pass has found an image's length, which is the same on every device
+pub fillable : (d : Device) (list : List ℕ) (long end n : ℕ) → ((x : Device) → M.Accepted long end ≡ measured (plan (O32 x) true list)) → n ≡ 32 + area end
+    → Fillable d list n
+fillable d list long end n e g = go (plan (O32 d) true list) refl (e d)
   where
-    go : (q : Plan State) → plan O32 true list ≡ q → M.Accepted long end ≡ measured q → Fillable list n
+    go : (q : Plan State) → plan (O32 d) true list ≡ q → M.Accepted long end ≡ measured q → Fillable d list n
     go (bad r at) f h = let z : _≡_ {A = ℕ} 0 1 = cc in absurd (omega arith)
     go (good L st) f h =
         let i : end ≡ st .end = cc in
         record { placed = L; last = st; planned = f; whole = g ∙ ap (λ (x : ℕ). 32 + area x) i }
 
-pub end-in-bounds : (bodies : Bool) (list : List ℕ) (long end : ℕ) → M.Accepted long end ≡ measured (plan O32 bodies list) → end ≤ 1024
-end-in-bounds bodies list long end e = go (plan O32 bodies list) refl e
+pub end-in-bounds : (d : Device) (bodies : Bool) (list : List ℕ) (long end : ℕ) → M.Accepted long end ≡ measured (plan (O32 d) bodies list) → end ≤ 1024
+end-in-bounds d bodies list long end e = go (plan (O32 d) bodies list) refl e
   where
-    go : (q : Plan State) → plan O32 bodies list ≡ q → M.Accepted long end ≡ measured q → end ≤ 1024
+    go : (q : Plan State) → plan (O32 d) bodies list ≡ q → M.Accepted long end ≡ measured q → end ≤ 1024
     go (bad r at) f h = let z : _≡_ {A = ℕ} 0 1 = cc in absurd (omega arith)
     go (good L st) f h =
         let i : end ≡ st .end = cc in
-        let w : leb (st .end) 1024 ≡ true = walk-fits O32 O32-laws (walked O32 O32-laws bodies list 0 0 (O32 .start) L st f .walk) refl in
+        let w : leb (st .end) 1024 ≡ true = walk-fits (O32 d) (O32-laws d) (walked (O32 d) (O32-laws d) bodies list 0 0 (O32 d .start) L st f .walk) refl in
         omega (arith, leb-true (st .end) 1024 w)
 
-pub record Right (list out : List ℕ) (r : Answer) (o : List ℕ) : Type 0 where
-  pub answer : r ≡ answerOf (writeInto list (length out))
-  pub buffer : o ≡ bufferOf (writeInto list (length out)) out
+pub record Right (d : Device) (list out : List ℕ) (r : Answer) (o : List ℕ) : Type 0 where
+  pub answer : r ≡ answerOf (writeInto d list (length out))
+  pub buffer : o ≡ bufferOf (writeInto d list (length out)) out
 
-module _ (list out : List ℕ) where
-  pub write-refused : (m : Measured) (r p : ℕ) (a : Answer) → m ≡ measured (plan O32 true list) → m ≡ M.Refused r p → a ≡ record { refusal = r; place = p; length = 0 } → Right list out a out
-  write-refused m r p a e g i = go (plan O32 true list) refl (sym g ∙ e)
+module _ (d : Device) (list out : List ℕ) where
+  pub write-refused : (m : Measured) (r p : ℕ) (a : Answer) → m ≡ measured (plan (O32 d) true list) → m ≡ M.Refused r p → a ≡ record { refusal = r; place = p; length = 0 } → Right d list out a out
+  write-refused m r p a e g i = go (plan (O32 d) true list) refl (sym g ∙ e)
     where
-      go : (q : Plan State) → plan O32 true list ≡ q → M.Refused r p ≡ measured q → Right list out a out
+      go : (q : Plan State) → plan (O32 d) true list ≡ q → M.Refused r p ≡ measured q → Right d list out a out
       go (bad r′ p′) f h =
           let x : r ≡ r′ = cc in
           let y : p ≡ p′ = cc in
           record { answer = i ∙ rw (f, x, y); buffer = rw f }
       go (good L st) f h = let z : _≡_ {A = ℕ} 0 1 = cc in absurd (omega arith)
 
-  module _ (n : ℕ) (f : Fillable list n) where
+  module _ (n : ℕ) (f : Fillable d list n) where
     long : length (image n (f .placed) list) ≡ n
     long = length-put (replicate n 0) (carried (f .placed)) (promotedBytes (f .placed) list) ∙ length-replicate n 0
 
-    pub write-short : length out < n → Right list out (record { refusal = 7; place = 0; length = 0 }) out
+    pub write-short : length out < n → Right d list out (record { refusal = 7; place = 0; length = 0 }) out
     write-short h = record { answer = rw (f .planned, ← (f .whole), long, lt-ltb (length out) n h); buffer = rw (f .planned, ← (f .whole), long, lt-ltb (length out) n h) }
 
-    pub write-done : (o : List ℕ) → n ≤ length out → o ≡ imageIn (plan O32 true list) list n ++ drop n out → Right list out (record { refusal = 0; place = 0; length = n }) o
+    pub write-done : (o : List ℕ) → n ≤ length out → o ≡ imageIn (plan (O32 d) true list) list n ++ drop n out → Right d list out (record { refusal = 0; place = 0; length = n }) o
     write-done o h e = record {
       answer = rw (f .planned, ← (f .whole), long, le-ltb (length out) n h, long);
       buffer = e ∙ rw (f .planned, ← (f .whole), long, le-ltb (length out) n h, long);
@@ -75,8 +77,8 @@ module _ (list out : List ℕ) where
 
 -- ---- the writer with a buffer gives an image exactly where the theorem's writer gives it and it fits
 
-pub written-is : (list x : List ℕ) (room : ℕ) → (writeInto list room ≡ C.done x) ↔ ((write O32 list ≡ C.done x) × (length x ≤ room))
-written-is list x room = (there (write O32 list), λ h. rw (h .0, le-ltb room (length x) (h .1)))
+pub written-is : (d : Device) (list x : List ℕ) (room : ℕ) → (writeInto d list room ≡ C.done x) ↔ ((write (O32 d) list ≡ C.done x) × (length x ≤ room))
+written-is d list x room = (there (write (O32 d) list), λ h. rw (h .0, le-ltb room (length x) (h .1)))
   where
     there : (a : C.Answer) → within 7 room a ≡ C.done x → (a ≡ C.done x) × (length x ≤ room)
     there (C.refused r at) e = let z : _≡_ {A = ℕ} 0 1 = cc in absurd (omega arith)

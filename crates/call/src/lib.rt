@@ -6,6 +6,7 @@ ghost use Rattle.o32.specs.O32.{area};
 ghost use Rattle.answers.specs.Answers.{answerOf, bufferOf};
 ghost use Rattle.call.specs.Answers.{readInto, writeInto};
 use answers::Answer;
+use device::Device;
 use measure::Measured;
 use reader::Checked;
 
@@ -30,10 +31,10 @@ fn image_length(end: usize) -> usize
     32 + (end + 7) / 8 * 8
 }
 
-// The call image of a list. Refusals 1 to 5 by record, then 7; no byte is stored before all are decided.
-pub fn write(list: &[u8], out: &mut [u8]) -> Answer
-    ensures answer { λ r. ⌜ r ≡ answerOf (writeInto (now (list .entry)) (length (now (out .entry)))) ⌝ }
-    ensures buffer { λ _. ⌜ now (out .exit) ≡ bufferOf (writeInto (now (list .entry)) (length (now (out .entry)))) (now (out .entry)) ⌝ }
+// The call image of a list for a device. Refusals 1 to 5 by record, then 7; no byte is stored before all are decided.
+pub fn write(device: Device, list: &[u8], out: &mut [u8]) -> Answer
+    ensures answer { λ r. ⌜ r ≡ answerOf (writeInto device (now (list .entry)) (length (now (out .entry)))) ⌝ }
+    ensures buffer { λ _. ⌜ now (out .exit) ≡ bufferOf (writeInto device (now (list .entry)) (length (now (out .entry)))) (now (out .entry)) ⌝ }
 {
     let found = measure::measure_list(list);
     let Measured::Accepted { length: _, end } = found else {
@@ -43,7 +44,7 @@ pub fn write(list: &[u8], out: &mut [u8]) -> Answer
     if out.len() < length {
         return answers::reply(7, 0, 0); // the image does not fit
     }
-    writer::lay(list, out, length);
+    writer::lay(device, list, out, length);
     answers::reply(0, 0, length)
 }
 
@@ -57,11 +58,11 @@ fn improper(found: Checked) -> Answer
     }
 }
 
-// The list of an image under a signature. Refusals 1, 2, 3 and 5 by record, then 6, 7, 8; no byte is stored before all are
+// The list of an image under a signature, for a device. Refusals 1, 2, 3 and 5 by record, then 6, 7, 8; no byte is stored before all are
 // decided.
-pub fn read(signature: &[u8], image: &[u8], out: &mut [u8]) -> Answer
-    ensures answer { λ r. ⌜ r ≡ answerOf (readInto (now (signature .entry)) (now (image .entry)) (length (now (out .entry)))) ⌝ }
-    ensures buffer { λ _. ⌜ now (out .exit) ≡ bufferOf (readInto (now (signature .entry)) (now (image .entry)) (length (now (out .entry)))) (now (out .entry)) ⌝ }
+pub fn read(device: Device, signature: &[u8], image: &[u8], out: &mut [u8]) -> Answer
+    ensures answer { λ r. ⌜ r ≡ answerOf (readInto device (now (signature .entry)) (now (image .entry)) (length (now (out .entry)))) ⌝ }
+    ensures buffer { λ _. ⌜ now (out .exit) ≡ bufferOf (readInto device (now (signature .entry)) (now (image .entry)) (length (now (out .entry)))) (now (out .entry)) ⌝ }
 {
     let found = measure::measure_signature(signature);
     let Measured::Accepted { length: n, end } = found else {
@@ -73,7 +74,7 @@ pub fn read(signature: &[u8], image: &[u8], out: &mut [u8]) -> Answer
     if out.len() < n {
         return answers::reply(7, 0, 0); // the list does not fit
     }
-    let checked = reader::deliver(signature, image, out);
+    let checked = reader::deliver(device, signature, image, out);
     let Checked::Proper = checked else {
         return improper(checked);
     };

@@ -10,6 +10,7 @@ use lib.ListN.{length, replicate, length-append, length-replicate}
 use lib.Dec.{eqb, ltb}
 use borrow.Author.Tests.{eqb-true}
 use Rattle.words.specs.Words.{body, proper}
+use Rattle.device.specs.declared.Device.{Device}
 use Rattle.carried.specs.Image as C
 use Rattle.carried.specs.Image.{Placed, gather, carried, promotedBytes, image, reading}
 use Rattle.carried.specs.Convention.{Plan, bad, good, plan, written, write}
@@ -57,12 +58,12 @@ image-length end L l h =
     let e : length (image n L l) ≡ n = length-put (replicate n 0) (carried L) (promotedBytes L l) ∙ length-replicate n 0 in
     omega arith
 
-write-bounded : (list : List ℕ) (q : Plan State) → plan O32 true list ≡ q → Bounded (written O32 list q)
-write-bounded list (bad r at) e = place-bound true list r at e
-write-bounded list (good L last) e = image-length (last .end) L list (plan-bound true list L last e .fits)
+write-bounded : (d : Device) (list : List ℕ) (q : Plan State) → plan (O32 d) true list ≡ q → Bounded (written (O32 d) list q)
+write-bounded d list (bad r at) e = place-bound d true list r at e
+write-bounded d list (good L last) e = image-length (last .end) L list (plan-bound d true list L last e .fits)
 
-pub write-fits : {a : Answer} (list : List ℕ) (room : ℕ) → a ≡ answerOf (writeInto list room) → Fits a
-write-fits list room e = fits (writeInto list room) (within-bounded 7 room (write O32 list) (write-bounded list (plan O32 true list) refl)) e
+pub write-fits : {a : Answer} (d : Device) (list : List ℕ) (room : ℕ) → a ≡ answerOf (writeInto d list room) → Fits a
+write-fits d list room e = fits (writeInto d list room) (within-bounded 7 room (write (O32 d) list) (write-bounded d list (plan (O32 d) true list) refl)) e
 
 -- ---- the reader
 
@@ -78,46 +79,46 @@ checked-bounded (s ∷ L) img at x h b =
     go false w = omega arith
 
 -- a reading is a list that the writer accepts
-reading-length : (sig img : List ℕ) (L : List Placed) (last : State) → plan O32 false sig ≡ good L last → length (reading L img) ≤ 1057
-reading-length sig img L last e =
-    plan-bound true (reading L img) L last (plan-reading O32 O32-laws (walk-of O32 O32-laws sig (O32 .start) L last 0 e) img 0) .long
+reading-length : (d : Device) (sig img : List ℕ) (L : List Placed) (last : State) → plan (O32 d) false sig ≡ good L last → length (reading L img) ≤ 1057
+reading-length d sig img L last e =
+    plan-bound d true (reading L img) L last (plan-reading (O32 d) (O32-laws d) (walk-of (O32 d) (O32-laws d) sig (O32 d .start) L last 0 e) img 0) .long
 
-read-bounded : (sig img : List ℕ) (room : ℕ) (q : Plan State) → plan O32 false sig ≡ q → Bounded (readWith img room q)
-read-bounded sig img room (bad r at) e = place-bound false sig r at e
-read-bounded sig img room (good L last) e = go (eqb (length img) (O32 .imageLength last)) (ltb room (length (reading L img)))
+read-bounded : (d : Device) (sig img : List ℕ) (room : ℕ) (q : Plan State) → plan (O32 d) false sig ≡ q → Bounded (readWith d img room q)
+read-bounded d sig img room (bad r at) e = place-bound d false sig r at e
+read-bounded d sig img room (good L last) e = go (eqb (length img) (O32 d .imageLength last)) (ltb room (length (reading L img)))
   where
     go : (t u : Bool) → Bounded (cond t (cond u (C.refused 7 0) (C.checked 0 L img (C.done (reading L img)))) (C.refused 6 0))
     go true true = omega arith
     go true false =
-        let l : length (reading L img) ≤ 1057 = reading-length sig img L last e in
+        let l : length (reading L img) ≤ 1057 = reading-length d sig img L last e in
         checked-bounded L img 0 (C.done (reading L img)) (omega arith) l
     go false u = omega arith
 
-pub read-fits : {a : Answer} (sig img : List ℕ) (room : ℕ) → a ≡ answerOf (readInto sig img room) → Fits a
-read-fits sig img room e = fits (readInto sig img room) (read-bounded sig img room (plan O32 false sig) refl) e
+pub read-fits : {a : Answer} (d : Device) (sig img : List ℕ) (room : ℕ) → a ≡ answerOf (readInto d sig img room) → Fits a
+read-fits d sig img room e = fits (readInto d sig img room) (read-bounded d sig img room (plan (O32 d) false sig) refl) e
 
 -- ---- the code of a frame
 
-code-bounded : (r : Request) (ws : List ℕ) (room : ℕ) → (refusalOf r ≡ 0 → length (bytesOfWords ws) ≤ 1057) → Bounded (codeInto r ws room)
+code-bounded : (d : Device) (r : Request) (ws : List ℕ) (room : ℕ) → (refusalOf d r ≡ 0 → length (bytesOfWords ws) ≤ 1057) → Bounded (codeInto d r ws room)
 unfolding codeInto
-code-bounded r ws room h = go (eqb (refusalOf r) 0) refl
+code-bounded d r ws room h = go (eqb (refusalOf d r) 0) refl
   where
-    go : (t : Bool) → eqb (refusalOf r) 0 ≡ t → Bounded (cond t (within 13 room (C.done (bytesOfWords ws))) (C.refused (refusalOf r) 0))
-    go true e = within-bounded 13 room (C.done (bytesOfWords ws)) (h (eqb-true (refusalOf r) 0 e))
+    go : (t : Bool) → eqb (refusalOf d r) 0 ≡ t → Bounded (cond t (within 13 room (C.done (bytesOfWords ws))) (C.refused (refusalOf d r) 0))
+    go true e = within-bounded 13 room (C.done (bytesOfWords ws)) (h (eqb-true (refusalOf d r) 0 e))
     go false e = omega arith
 
-prologue-bound : (r : Request) → refusalOf r ≡ 0 → length (bytesOfWords (prologueWords r)) ≤ 1057
-prologue-bound r e = go (ℕ-discrete (frameOf r) 0)
+prologue-bound : (d : Device) (r : Request) → refusalOf d r ≡ 0 → length (bytesOfWords (prologueWords r)) ≤ 1057
+prologue-bound d r e = go (ℕ-discrete (frameOf r) 0)
   where
     go : Dec (frameOf r ≡ 0) → length (bytesOfWords (prologueWords r)) ≤ 1057
     go (yes z) = rw (prologue-none r z) (omega arith)
-    go (no n) = omega (arith, prologue-length r n, length-saves r, small r e .few-pairs, small r e .few-general)
+    go (no n) = omega (arith, prologue-length r n, length-saves r, small d r e .counts .few-pairs, small d r e .counts .few-general)
 
-epilogue-bound : (r : Request) → refusalOf r ≡ 0 → length (bytesOfWords (epilogueWords r)) ≤ 1057
-epilogue-bound r e = omega (arith, epilogue-length r, length-saves r, small r e .few-pairs, small r e .few-general)
+epilogue-bound : (d : Device) (r : Request) → refusalOf d r ≡ 0 → length (bytesOfWords (epilogueWords r)) ≤ 1057
+epilogue-bound d r e = omega (arith, epilogue-length r, length-saves r, small d r e .counts .few-pairs, small d r e .counts .few-general)
 
-pub prologue-fits : {a : Answer} (r : Request) (room : ℕ) → a ≡ answerOf (prologueInto r room) → Fits a
-prologue-fits r room e = fits (prologueInto r room) (code-bounded r (prologueWords r) room (prologue-bound r)) e
+pub prologue-fits : {a : Answer} (d : Device) (r : Request) (room : ℕ) → a ≡ answerOf (prologueInto d r room) → Fits a
+prologue-fits d r room e = fits (prologueInto d r room) (code-bounded d r (prologueWords r) room (prologue-bound d r)) e
 
-pub epilogue-fits : {a : Answer} (r : Request) (room : ℕ) → a ≡ answerOf (epilogueInto r room) → Fits a
-epilogue-fits r room e = fits (epilogueInto r room) (code-bounded r (epilogueWords r) room (epilogue-bound r)) e
+pub epilogue-fits : {a : Answer} (d : Device) (r : Request) (room : ℕ) → a ≡ answerOf (epilogueInto d r room) → Fits a
+epilogue-fits d r room e = fits (epilogueInto d r room) (code-bounded d r (epilogueWords r) room (epilogue-bound d r)) e

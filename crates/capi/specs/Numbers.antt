@@ -1,7 +1,9 @@
 -- The numbers that C hands over and gets.
-use mathlib.Core.Bool.{not}
+use mathlib.Core.Bool.{cond, not}
 use Prim.Native.Nat.{ℕ}
 use lib.Dec.{eqb}
+use Rattle.device.specs.declared.Device.{Device}
+use Rattle.device.specs.declared.Device.the-variants.{Fpu, NoFpu}
 use Rattle.answers.specs.declared.Answer.{Answer}
 use Rattle.saves.specs.declared.Request.{Request}
 use Rattle.saves.specs.declared.Layout.{Layout}
@@ -23,6 +25,10 @@ layoutNumbers y = record {
   general = y .general;
   locals = y .locals;
 }
+
+-- A device. 0 is the one with a floating-point unit, any other number the one without.
+abbrev pub deviceOf : ℕ → Device
+deviceOf n = cond (eqb n 0) Fpu NoFpu
 
 -- A request. C says whether a routine is a leaf by a number: 0 is no, any other yes.
 abbrev pub requestOf : ℕ → ℕ → ℕ → ℕ → ℕ → Request

@@ -6,8 +6,9 @@ ghost use Rattle.answers.specs.Answers.{answerOf, bufferOf};
 ghost use Rattle.call.specs.Answers.{readInto, writeInto};
 ghost use Rattle.saves.specs.Frame.{layoutOf};
 ghost use Rattle.frame.specs.Code.{epilogueInto, prologueInto};
-ghost use Rattle.capi.specs.Numbers.{layoutNumbers, narrow, requestOf};
+ghost use Rattle.capi.specs.Numbers.{deviceOf, layoutNumbers, narrow, requestOf};
 use answers::Answer;
+use device::Device;
 use saves::Request;
 
 // A refusal and its place, or 0, 0 and the length of what was written.
@@ -44,6 +45,17 @@ fn narrowed(answer: Answer) -> O32Answer
     }
 }
 
+// A device as C hands it over.
+fn as_device(number: u32) -> Device
+    ensures { λ r. ⌜ r ≡ deviceOf number ⌝ }
+{
+    if number == 0 {
+        Device::Fpu
+    } else {
+        Device::NoFpu
+    }
+}
+
 // A request as C hands it over.
 fn as_request(leaf: u32, locals: u32, outgoing: u32, general: u32, pairs: u32) -> Request
     ensures { λ r. ⌜ r ≡ requestOf leaf locals outgoing general pairs ⌝ }
@@ -57,39 +69,45 @@ fn as_request(leaf: u32, locals: u32, outgoing: u32, general: u32, pairs: u32) -
     }
 }
 
-// The call image of a list.
+// The call image of a list for a device.
 #[no_mangle]
-pub extern "C" fn o32_write(list: &[u8], image: &mut [u8]) -> O32Answer
-    ensures answer { λ r. ⌜ r ≡ narrow (answerOf (writeInto (now (list .entry)) (length (now (image .entry))))) ⌝ }
-    ensures buffer { λ _. ⌜ now (image .exit) ≡ bufferOf (writeInto (now (list .entry)) (length (now (image .entry)))) (now (image .entry)) ⌝ }
+pub extern "C" fn o32_write(device: u32, list: &[u8], image: &mut [u8]) -> O32Answer
+    ensures answer { λ r. ⌜ r ≡ narrow (answerOf (writeInto (deviceOf device) (now (list .entry)) (length (now (image .entry))))) ⌝ }
+    ensures buffer { λ _. ⌜ now (image .exit) ≡ bufferOf (writeInto (deviceOf device) (now (list .entry)) (length (now (image .entry)))) (now (image .entry)) ⌝ }
 {
-    let answer = call::write(list, image);
+    let answer = call::write(as_device(device), list, image);
     narrowed(answer)
 }
 
-// The list of an image under a signature.
+// The list of an image under a signature, for a device.
 #[no_mangle]
-pub extern "C" fn o32_read(signature: &[u8], image: &[u8], list: &mut [u8]) -> O32Answer
-    ensures answer { λ r. ⌜ r ≡ narrow (answerOf (readInto (now (signature .entry)) (now (image .entry)) (length (now (list .entry))))) ⌝ }
-    ensures buffer { λ _. ⌜ now (list .exit) ≡ bufferOf (readInto (now (signature .entry)) (now (image .entry)) (length (now (list .entry)))) (now (list .entry)) ⌝ }
+pub extern "C" fn o32_read(
+    device: u32,
+    signature: &[u8],
+    image: &[u8],
+    list: &mut [u8],
+) -> O32Answer
+    ensures answer { λ r. ⌜ r ≡ narrow (answerOf (readInto (deviceOf device) (now (signature .entry)) (now (image .entry)) (length (now (list .entry))))) ⌝ }
+    ensures buffer { λ _. ⌜ now (list .exit) ≡ bufferOf (readInto (deviceOf device) (now (signature .entry)) (now (image .entry)) (length (now (list .entry)))) (now (list .entry)) ⌝ }
 {
-    let answer = call::read(signature, image, list);
+    let answer = call::read(as_device(device), signature, image, list);
     narrowed(answer)
 }
 
-// The frame of a request.
+// The frame of a request on a device.
 #[no_mangle]
 pub extern "C" fn o32_frame(
+    device: u32,
     leaf: u32,
     locals: u32,
     outgoing: u32,
     general: u32,
     pairs: u32,
 ) -> O32Layout
-    ensures { λ r. ⌜ r ≡ layoutNumbers (layoutOf (requestOf leaf locals outgoing general pairs)) ⌝ }
+    ensures { λ r. ⌜ r ≡ layoutNumbers (layoutOf (deviceOf device) (requestOf leaf locals outgoing general pairs)) ⌝ }
 {
     let request = as_request(leaf, locals, outgoing, general, pairs);
-    let layout = frame::layout_of(request);
+    let layout = frame::layout_of(as_device(device), request);
     O32Layout {
         refusal: layout.refusal,
         place: layout.place,
@@ -101,9 +119,10 @@ pub extern "C" fn o32_frame(
     }
 }
 
-// The prologue of a request.
+// The prologue of a request on a device.
 #[no_mangle]
 pub extern "C" fn o32_prologue(
+    device: u32,
     leaf: u32,
     locals: u32,
     outgoing: u32,
@@ -111,17 +130,18 @@ pub extern "C" fn o32_prologue(
     pairs: u32,
     code: &mut [u8],
 ) -> O32Answer
-    ensures answer { λ r. ⌜ r ≡ narrow (answerOf (prologueInto (requestOf leaf locals outgoing general pairs) (length (now (code .entry))))) ⌝ }
-    ensures buffer { λ _. ⌜ now (code .exit) ≡ bufferOf (prologueInto (requestOf leaf locals outgoing general pairs) (length (now (code .entry)))) (now (code .entry)) ⌝ }
+    ensures answer { λ r. ⌜ r ≡ narrow (answerOf (prologueInto (deviceOf device) (requestOf leaf locals outgoing general pairs) (length (now (code .entry))))) ⌝ }
+    ensures buffer { λ _. ⌜ now (code .exit) ≡ bufferOf (prologueInto (deviceOf device) (requestOf leaf locals outgoing general pairs) (length (now (code .entry)))) (now (code .entry)) ⌝ }
 {
     let request = as_request(leaf, locals, outgoing, general, pairs);
-    let answer = frame::prologue(request, code);
+    let answer = frame::prologue(as_device(device), request, code);
     narrowed(answer)
 }
 
-// The epilogue of a request.
+// The epilogue of a request on a device.
 #[no_mangle]
 pub extern "C" fn o32_epilogue(
+    device: u32,
     leaf: u32,
     locals: u32,
     outgoing: u32,
@@ -129,10 +149,10 @@ pub extern "C" fn o32_epilogue(
     pairs: u32,
     code: &mut [u8],
 ) -> O32Answer
-    ensures answer { λ r. ⌜ r ≡ narrow (answerOf (epilogueInto (requestOf leaf locals outgoing general pairs) (length (now (code .entry))))) ⌝ }
-    ensures buffer { λ _. ⌜ now (code .exit) ≡ bufferOf (epilogueInto (requestOf leaf locals outgoing general pairs) (length (now (code .entry)))) (now (code .entry)) ⌝ }
+    ensures answer { λ r. ⌜ r ≡ narrow (answerOf (epilogueInto (deviceOf device) (requestOf leaf locals outgoing general pairs) (length (now (code .entry))))) ⌝ }
+    ensures buffer { λ _. ⌜ now (code .exit) ≡ bufferOf (epilogueInto (deviceOf device) (requestOf leaf locals outgoing general pairs) (length (now (code .entry)))) (now (code .entry)) ⌝ }
 {
     let request = as_request(leaf, locals, outgoing, general, pairs);
-    let answer = frame::epilogue(request, code);
+    let answer = frame::epilogue(as_device(device), request, code);
     narrowed(answer)
 }

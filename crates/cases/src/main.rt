@@ -4,19 +4,21 @@
 //
 //     write ROOM, LIST                the image of a list, in a buffer of ROOM bytes
 //     read ROOM, SIGNATURE, IMAGE     the list of an image under a signature, in a buffer of ROOM bytes
+//     nwrite, nread                   the same without a floating-point unit
 //
 // ROOM is a decimal number, at most 4,096. LIST, SIGNATURE and IMAGE are at most 4,096 bytes, each a pair of hex digits, with
 // spaces between them or none. Behind a pair, *N makes N equal bytes of it, and +N makes N bytes that count up from it. Of the
-// words write and read the first letter decides. A line that has another form is answered "malformed".
+// words write and read the first letter decides, behind an n the next one. A line that has another form is answered "malformed".
 //
 // The answer is the refusal, or the bytes that were written, 16 to a line; then their number, and whether every other byte of
 // the buffer is kept.
 ghost use Prim.Native.Nat.{_≤_};
 ghost use lib.ListN.{length};
+use device::Device;
 use libc::STDIN_FILENO;
 
 // The writer, of the list behind a place of a line.
-fn write(room: usize, line: &[u8], from: usize) {
+fn write(device: Device, room: usize, line: &[u8], from: usize) {
     let mut list = io::buffer();
     let n = lines::bytes(line, from, line.len(), &mut list);
     if n > 4096 {
@@ -27,12 +29,12 @@ fn write(room: usize, line: &[u8], from: usize) {
     }
     let mut out = io::buffer();
     lines::put(&mut out, 0, 0xA5, 0, 4096);
-    let answer = call::write(&list[..n], &mut out[..room]);
+    let answer = call::write(device, &list[..n], &mut out[..room]);
     lines::show(answer, &out);
 }
 
 // The reader, of the signature behind a place of a line and the image behind a comma.
-fn read(room: usize, line: &[u8], from: usize)
+fn read(device: Device, room: usize, line: &[u8], from: usize)
     requires { ⌜ from ≤ length (now line) ⌝ }
 {
     let comma = lines::find(line, from, b',');
@@ -54,19 +56,31 @@ fn read(room: usize, line: &[u8], from: usize)
     }
     let mut out = io::buffer();
     lines::put(&mut out, 0, 0xA5, 0, 4096);
-    let answer = call::read(&signature[..n], &image[..m], &mut out[..room]);
+    let answer = call::read(device, &signature[..n], &image[..m], &mut out[..room]);
     lines::show(answer, &out);
 }
 
-// The case of a line: its word goes by the first letter.
+// The letter that decides on a line: the first, or the one behind an n.
+fn letter(line: &[u8]) -> u8
+    requires { ⌜ 1 ≤ length (now line) ⌝ }
+{
+    let first = line[0];
+    if first != b'n' || line.len() < 2 {
+        return first;
+    }
+    line[1]
+}
+
+// The case of a line.
 fn run(line: &[u8])
     requires { ⌜ 1 ≤ length (now line) ⌝ }
 {
+    let device = lines::device_of(line);
     let room = lines::room(line);
-    let word = line[0];
+    let word = letter(line);
     match word {
-        b'r' => read(room.value, line, room.end),
-        b'w' => write(room.value, line, room.end),
+        b'r' => read(device, room.value, line, room.end),
+        b'w' => write(device, room.value, line, room.end),
         _ => lines::malformed(),
     }
 }

@@ -10,12 +10,13 @@ use lib.Seq.{sets}
 use lib.Count.{ones}
 use borrow.Author.Tests.{eq-eqb, ne-eqb}
 use Rattle.words.specs.Words.{bytesOf}
+use Rattle.device.specs.declared.Device.{Device}
 use Rattle.saves.specs.declared.Request.{Request}
 use Rattle.saves.specs.Masks.{named, below}
-use Rattle.saves.specs.Frame.{refusalOf, buildOf, floatingAt, generalAt, frameOf}
+use Rattle.saves.specs.Frame.{outside, refusalOf, buildOf, floatingAt, generalAt, frameOf}
 use Rattle.saves.specs.Words.{Save, collect, pairAt, registerAt, savesOf, wordOf, storeWord, loadWord, prologueFor, slotFor, epilogueFor, prologueWords, epilogueWords, bytesOfWords}
 use Rattle.saves.proofs.Masks.{below-le}
-use Rattle.saves.proofs.Accepted.{accepted, ones-pairs, ones-general, few-general, build-small}
+use Rattle.saves.proofs.Accepted.{savable-masks, inside, accepted, ones-pairs, ones-general, few-general, build-small}
 use Rattle.emit.proofs.Emit.{code, sets-append, two-words, bytes-append, length-code}
 
 length-bytes : (ws : List ℕ) → length (bytesOfWords ws) ≡ 4 * length ws
@@ -76,28 +77,29 @@ length-saves r =
       length-code 0 4 (registerAt (generalAt r) (r .general)) (λ j. refl) (r .general) 32,
     )
 
--- an accepted request's counts are those that the code takes, and its numbers are small
-pub record Small (r : Request) : Type 0 where
+-- the counts that the code takes are those of the masks, which name few
+pub record Counted (r : Request) : Type 0 where
   pub pairs : ones (r .pairs) ≡ below (r .pairs) 6
   pub general : ones (r .general) ≡ below (r .general) 32
   pub few-pairs : below (r .pairs) 6 ≤ 6
   pub few-general : below (r .general) 32 ≤ 10
+
+pub counted : (r : Request) → outside r ≡ false → Counted r
+counted r e =
+    let m = savable-masks r e in
+    record { pairs = ones-pairs m; general = ones-general m; few-pairs = below-le (r .pairs) 6; few-general = few-general m }
+
+-- and the numbers of an accepted request are small
+pub record Small (r : Request) : Type 0 where
+  pub counts : Counted r
   pub build : buildOf r ≤ 1024
   pub outgoing : r .outgoing ≤ 1024
   pub locals : r .locals ≤ 16384
 
-pub small : (r : Request) → refusalOf r ≡ 0 → Small r
-small r e =
-    let a = accepted r e in
-    record {
-      pairs = ones-pairs a;
-      general = ones-general a;
-      few-pairs = below-le (r .pairs) 6;
-      few-general = few-general a;
-      build = build-small a;
-      outgoing = a .outgoing;
-      locals = a .locals;
-    }
+pub small : (d : Device) (r : Request) → refusalOf d r ≡ 0 → Small r
+small d r e =
+    let a = accepted d r e in
+    record { counts = counted r (inside d r e); build = build-small a; outgoing = a .outgoing; locals = a .locals }
 
 pub prologue-none : (r : Request) → frameOf r ≡ 0 → bytesOfWords (prologueWords r) ≡ []
 unfolding prologueWords prologueFor

@@ -1,4 +1,4 @@
--- Document 01's frame, computed: its layout, its words, and their run on the machine.
+-- Document 01's frame, computed on both devices: its layout, its words, and their run on the machine.
 -- Assumes nothing.
 use mathlib.Core.Path.{_≡_, refl}
 use mathlib.Core.Bool.{Bool, false, cond, _&&_}
@@ -9,6 +9,8 @@ use native.Mathlib.Omega.{arith}
 use lib.Dec.{T, eqb, ltb}
 use lib.ListN.{getD}
 use Rattle.machine.specs.Machine.{State, upd, after, special, byOpcode, decode, read, write, signExtend, sum, andThen, step, run}
+use Rattle.device.specs.declared.Device.{Device}
+use Rattle.device.specs.declared.Device.the-variants.{Fpu, NoFpu}
 use Rattle.saves.specs.declared.Request.{Request}
 use Rattle.saves.specs.Masks.{below}
 use Rattle.saves.specs.Frame.{refusalOf, generalAt, localsAt, frameOf, layoutOf}
@@ -25,12 +27,13 @@ prologue = 0x27BDFFE0 ∷ 0xAFB00010 ∷ 0xAFBF0014 ∷ []
 abbrev epilogue : List ℕ
 epilogue = 0x8FB00010 ∷ 0x8FBF0014 ∷ 0x03E00008 ∷ 0x27BD0020 ∷ []
 
-pub example-frame :
-    (layoutOf example ≡ record { refusal = 0; place = 0; frame = 32; build = 16; floating = 16; general = 16; locals = 24 })
+pub example-frame : (d : Device)
+    → (layoutOf d example ≡ record { refusal = 0; place = 0; frame = 32; build = 16; floating = 16; general = 16; locals = 24 })
     × (prologueWords example ≡ prologue)
     × (epilogueWords example ≡ epilogue)
 unfolding layoutOf refusalOf frameOf localsAt generalAt below prologueWords epilogueWords prologueFor epilogueFor savesOf collect
-example-frame = (refl, refl, refl)
+example-frame Fpu = (refl, refl, refl)
+example-frame NoFpu = (refl, refl, refl)
 
 -- ---- the least `$sp` that there can be, with the prologue at 0 and the epilogue at 100 (hex)
 

@@ -10,6 +10,7 @@ use lib.ListN.{length, take}
 use lib.Seq.{take-at}
 use lib.Dec.{eqb, ltb}
 use borrow.Author.Tests.{eqb-true, eqb-false}
+use Rattle.device.specs.declared.Device.{Device}
 use Rattle.carried.specs.Image as C
 use Rattle.answers.specs.Answers.{answerOf, bufferOf}
 use Rattle.saves.specs.declared.Request.{Request}
@@ -20,28 +21,28 @@ use Rattle.saves.proofs.Theorem.{frames}
 use Rattle.frame.specs.Code.{codeInto, prologueInto, epilogueInto}
 
 -- what was written where the answer is no refusal
-abbrev Wrote : Request → List ℕ → List ℕ → Type 0
-Wrote r ws buf = (refusalOf r ≡ 0) × (take (answerOf (codeInto r ws (length buf)) .length) (bufferOf (codeInto r ws (length buf)) buf) ≡ bytesOfWords ws)
+abbrev Wrote : Device → Request → List ℕ → List ℕ → Type 0
+Wrote d r ws buf = (refusalOf d r ≡ 0) × (take (answerOf (codeInto d r ws (length buf)) .length) (bufferOf (codeInto d r ws (length buf)) buf) ≡ bytesOfWords ws)
 
-wrote : (r : Request) (ws buf : List ℕ) → answerOf (codeInto r ws (length buf)) .refusal ≡ 0 → Wrote r ws buf
+wrote : (d : Device) (r : Request) (ws buf : List ℕ) → answerOf (codeInto d r ws (length buf)) .refusal ≡ 0 → Wrote d r ws buf
 unfolding codeInto
-wrote r ws buf = go (eqb (refusalOf r) 0) (ltb (length buf) (length (bytesOfWords ws))) refl
+wrote d r ws buf = go (eqb (refusalOf d r) 0) (ltb (length buf) (length (bytesOfWords ws))) refl
   where
     answer : (accepted short : Bool) → C.Answer
-    answer accepted short = cond accepted (cond short (C.refused 13 0) (C.done (bytesOfWords ws))) (C.refused (refusalOf r) 0)
+    answer accepted short = cond accepted (cond short (C.refused 13 0) (C.done (bytesOfWords ws))) (C.refused (refusalOf d r) 0)
 
-    go : (accepted short : Bool) → eqb (refusalOf r) 0 ≡ accepted → answerOf (answer accepted short) .refusal ≡ 0
-        → (refusalOf r ≡ 0) × (take (answerOf (answer accepted short) .length) (bufferOf (answer accepted short) buf) ≡ bytesOfWords ws)
+    go : (accepted short : Bool) → eqb (refusalOf d r) 0 ≡ accepted → answerOf (answer accepted short) .refusal ≡ 0
+        → (refusalOf d r ≡ 0) × (take (answerOf (answer accepted short) .length) (bufferOf (answer accepted short) buf) ≡ bytesOfWords ws)
     go true true e h = absurd (omega arith)
-    go true false e h = (eqb-true (refusalOf r) 0 e, take-at (bytesOfWords ws) _ _ refl)
-    go false short e h = absurd (eqb-false (refusalOf r) 0 e h)
+    go true false e h = (eqb-true (refusalOf d r) 0 e, take-at (bytesOfWords ws) _ _ refl)
+    go false short e h = absurd (eqb-false (refusalOf d r) 0 e h)
 
 -- The bytes that stand in the two buffers behind calls that were not refused keep what is demanded of them.
-pub written-keeps : (r : Request) (out out′ : List ℕ)
-    → answerOf (prologueInto r (length out)) .refusal ≡ 0 → answerOf (epilogueInto r (length out′)) .refusal ≡ 0
-    → Keeps r (take (answerOf (prologueInto r (length out)) .length) (bufferOf (prologueInto r (length out)) out))
-    (take (answerOf (epilogueInto r (length out′)) .length) (bufferOf (epilogueInto r (length out′)) out′))
-written-keeps r out out′ p q =
-    let a = wrote r (prologueWords r) out p in
-    let b = wrote r (epilogueWords r) out′ q in
-    subst₂ (Keeps r) (sym (a .1)) (sym (b .1)) (frames r (a .0))
+pub written-keeps : (d : Device) (r : Request) (out out′ : List ℕ)
+    → answerOf (prologueInto d r (length out)) .refusal ≡ 0 → answerOf (epilogueInto d r (length out′)) .refusal ≡ 0
+    → Keeps r (take (answerOf (prologueInto d r (length out)) .length) (bufferOf (prologueInto d r (length out)) out))
+    (take (answerOf (epilogueInto d r (length out′)) .length) (bufferOf (epilogueInto d r (length out′)) out′))
+written-keeps d r out out′ p q =
+    let a = wrote d r (prologueWords r) out p in
+    let b = wrote d r (epilogueWords r) out′ q in
+    subst₂ (Keeps r) (sym (a .1)) (sym (b .1)) (frames d r (a .0))

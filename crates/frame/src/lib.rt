@@ -1,5 +1,5 @@
 // Frames: the layout of a request, its prologue and its epilogue.
-ghost use mathlib.Core.Bool.{cond};
+ghost use mathlib.Core.Bool.{cond, false};
 ghost use mathlib.Core.List.{map};
 ghost use mathlib.Core.Path.{_≡_};
 ghost use Prim.Native.Nat.{_*_, _+_, _-_, _<_, _≤_};
@@ -7,39 +7,80 @@ ghost use lib.ListN.{length};
 ghost use lib.Seq.{sets};
 ghost use Rattle.words.specs.Words.{up};
 ghost use Rattle.answers.specs.Answers.{answerOf, bufferOf};
-ghost use Rattle.saves.specs.Frame.{buildFor, layoutOf, refusalOf};
+ghost use Rattle.saves.specs.Frame.{buildFor, floatingAt, generalAt, layoutOf, outside, overfull, refusalOf, unreturning, withoutUnit};
 ghost use Rattle.saves.specs.Words.{bytesOfWords, savesOf, slotFor, wordOf};
 ghost use Rattle.frame.specs.Code.{epilogueInto, prologueInto};
 use answers::Answer;
+use device::Device;
 use saves::Layout;
 use saves::Request;
 
-// The number of the refusal of a request, 0 for none. Nothing is added up before all is in its limits.
-fn refusal(request: Request) -> u32
-    ensures { λ r. ⌜ r ≡ refusalOf request ⌝ }
+// Refusal 9: a general register that may not be saved, or a pair mask above 63.
+fn is_outside(request: Request) -> bool
+    ensures { λ r. ⌜ r ≡ outside request ⌝ }
 {
     let general = request.general;
     if general & 0xC0FF_0000 != general {
+        return true;
+    }
+    request.pairs > 63
+}
+
+// Refusal 14: pairs to save on a device without a floating-point unit.
+fn is_without_unit(device: Device, request: Request) -> bool
+    ensures { λ r. ⌜ r ≡ withoutUnit device request ⌝ }
+{
+    let Device::NoFpu = device else {
+        return false;
+    };
+    request.pairs != 0
+}
+
+// Refusal 10: not a leaf, and `$31` not named.
+fn is_unreturning(request: Request) -> bool
+    ensures { λ r. ⌜ r ≡ unreturning request ⌝ }
+{
+    if request.leaf {
+        return false;
+    }
+    request.general / 0x8000_0000 % 2 != 1
+}
+
+// Refusal 12: too many bytes of outgoing arguments, or any in a leaf.
+fn is_overfull(request: Request) -> bool
+    ensures { λ r. ⌜ r ≡ overfull request ⌝ }
+{
+    if request.outgoing > 1024 {
+        return true;
+    }
+    if request.leaf {
+        return request.outgoing != 0;
+    }
+    false
+}
+
+// The number of the refusal of a request on a device, 0 for none. Nothing is added up before all is in its limits.
+fn refusal(device: Device, request: Request) -> u32
+    ensures { λ r. ⌜ r ≡ refusalOf device request ⌝ }
+{
+    let outside = is_outside(request);
+    let without_unit = is_without_unit(device, request);
+    let unreturning = is_unreturning(request);
+    let overfull = is_overfull(request);
+    if outside {
         return 9;
     }
-    if request.pairs > 63 {
-        return 9;
+    if without_unit {
+        return 14;
     }
-    if !request.leaf {
-        if general / 0x8000_0000 % 2 != 1 {
-            return 10;
-        }
+    if unreturning {
+        return 10;
     }
     if request.locals > 16384 {
         return 11;
     }
-    if request.outgoing > 1024 {
+    if overfull {
         return 12;
-    }
-    if request.leaf {
-        if request.outgoing != 0 {
-            return 12;
-        }
     }
     0
 }
@@ -63,11 +104,11 @@ fn build_area(leaf: bool, outgoing: u32) -> u32
     if rounded < 16 { 16 } else { rounded }
 }
 
-// The frame of a request.
-pub fn layout_of(request: Request) -> Layout
-    ensures { λ r. ⌜ r ≡ layoutOf request ⌝ }
+// The frame of a request on a device.
+pub fn layout_of(device: Device, request: Request) -> Layout
+    ensures { λ r. ⌜ r ≡ layoutOf device request ⌝ }
 {
-    let number = refusal(request);
+    let number = refusal(device, request);
     if number != 0 {
         return Layout {
             refusal: number,
@@ -93,15 +134,15 @@ pub fn layout_of(request: Request) -> Layout
     }
 }
 
-// The bytes of one instruction for each register that an accepted request names, two for a pair.
+// The bytes of one instruction for each register that a request names, two for a pair, where its masks name no other.
 fn saves_length(request: Request) -> usize
-    requires { ⌜ refusalOf request ≡ 0 ⌝ }
+    requires { ⌜ outside request ≡ false ⌝ }
     ensures { λ r. ⌜ (r ≡ 4 * length (savesOf request)) × (r ≤ 88) ⌝ }
 {
     (8 * u32::count_ones(request.pairs) + 4 * u32::count_ones(request.general)) as usize
 }
 
-// One instruction for each save word of an accepted request, from a place on; the place behind them. fop and gop are the
+// One instruction for each save word of a request, by its layout, from a place on; the place behind them. fop and gop are the
 // instruction's word for floating and for general registers, with register 0 and offset 0.
 fn put_saves(
     out: &mut [u8],
@@ -111,7 +152,9 @@ fn put_saves(
     request: Request,
     layout: Layout,
 ) -> usize
-    requires { ⌜ (layout ≡ layoutOf request) × (layout .refusal ≡ 0) × (fop ≤ 0xE7A00000) × (gop ≤ 0xE7A00000) ⌝ }
+    requires { ⌜ (outside request ≡ false) × (fop ≤ 0xE7A00000) × (gop ≤ 0xE7A00000) ⌝ }
+    requires { ⌜ (layout .floating ≡ floatingAt request) × (layout .general ≡ generalAt request) ⌝ }
+    requires { ⌜ (layout .floating ≤ 4096) × (layout .general ≤ 4096) ⌝ }
     requires { ⌜ at + 4 * length (savesOf request) ≤ length (now out) ⌝ }
     ensures { λ r. ⌜ r ≡ at + 4 * length (savesOf request) ⌝ }
     ensures { λ _. ⌜ now (out .exit) ≡ sets (now (out .entry)) at (bytesOfWords (map (λ v. wordOf (cond (v .float) fop gop) v) (savesOf request))) ⌝ }
@@ -129,12 +172,12 @@ fn negated(f: u32) -> u32
     ((n as i32) + 65536) as u32
 }
 
-// The prologue of a request. Refusals 9 to 12, then 13; no byte is stored before all are decided.
-pub fn prologue(request: Request, out: &mut [u8]) -> Answer
-    ensures answer { λ r. ⌜ r ≡ answerOf (prologueInto request (length (now (out .entry)))) ⌝ }
-    ensures buffer { λ _. ⌜ now (out .exit) ≡ bufferOf (prologueInto request (length (now (out .entry)))) (now (out .entry)) ⌝ }
+// The prologue of a request on a device. Refusals 9, 14, 10, 11 and 12, then 13; no byte is stored before all are decided.
+pub fn prologue(device: Device, request: Request, out: &mut [u8]) -> Answer
+    ensures answer { λ r. ⌜ r ≡ answerOf (prologueInto device request (length (now (out .entry)))) ⌝ }
+    ensures buffer { λ _. ⌜ now (out .exit) ≡ bufferOf (prologueInto device request (length (now (out .entry)))) (now (out .entry)) ⌝ }
 {
-    let layout = layout_of(request);
+    let layout = layout_of(device, request);
     let number = layout.refusal;
     if number != 0 {
         return answers::reply(number, 0, 0);
@@ -160,12 +203,12 @@ fn delay_slot(f: u32) -> u32
     if f == 0 { 0 } else { 0x27BD_0000 + f }
 }
 
-// The epilogue of a request, likewise.
-pub fn epilogue(request: Request, out: &mut [u8]) -> Answer
-    ensures answer { λ r. ⌜ r ≡ answerOf (epilogueInto request (length (now (out .entry)))) ⌝ }
-    ensures buffer { λ _. ⌜ now (out .exit) ≡ bufferOf (epilogueInto request (length (now (out .entry)))) (now (out .entry)) ⌝ }
+// The epilogue of a request on a device, likewise.
+pub fn epilogue(device: Device, request: Request, out: &mut [u8]) -> Answer
+    ensures answer { λ r. ⌜ r ≡ answerOf (epilogueInto device request (length (now (out .entry)))) ⌝ }
+    ensures buffer { λ _. ⌜ now (out .exit) ≡ bufferOf (epilogueInto device request (length (now (out .entry)))) (now (out .entry)) ⌝ }
 {
-    let layout = layout_of(request);
+    let layout = layout_of(device, request);
     let number = layout.refusal;
     if number != 0 {
         return answers::reply(number, 0, 0);

@@ -3,6 +3,7 @@
 // An empty line, and a line that starts with #, is printed as it is. Any other line is printed with the answer below it:
 //
 //     frame ROOM, REQUEST     the layout of a frame, its prologue and its epilogue, in buffers of ROOM bytes
+//     nframe ROOM, REQUEST    the same without a floating-point unit
 //
 // ROOM is a decimal number, at most 4,096. REQUEST is five words of eight hex digits: leaf (0 is no), bytes of locals, bytes of
 // outgoing arguments, general mask, pair mask. A line without a room or without 20 bytes of request is answered "malformed".
@@ -12,6 +13,7 @@
 ghost use Prim.Native.Nat.{_≤_};
 ghost use lib.ListN.{length};
 use answers::Answer;
+use device::Device;
 use libc::STDIN_FILENO;
 use libc::STDOUT_FILENO;
 use saves::Layout;
@@ -48,24 +50,27 @@ fn request_in(words: &[u8]) -> Request
 }
 
 // The prologue or, where control goes back, the epilogue of a request.
-fn code_of(request: Request, back: bool, out: &mut [u8]) -> Answer {
+fn code_of(device: Device, request: Request, back: bool, out: &mut [u8]) -> Answer {
     if back {
-        return frame::epilogue(request, out);
+        return frame::epilogue(device, request, out);
     }
-    frame::prologue(request, out)
+    frame::prologue(device, request, out)
 }
 
-fn show_code(room: usize, request: Request, back: bool)
+fn show_code(room: usize, device: Device, request: Request, back: bool)
     requires { ⌜ room ≤ 4096 ⌝ }
 {
     let mut out = io::buffer();
     lines::put(&mut out, 0, 0xA5, 0, 4096);
-    let answer = code_of(request, back, &mut out[..room]);
+    let answer = code_of(device, request, back, &mut out[..room]);
     lines::show(answer, &out);
 }
 
 // The frame of a line.
-fn run(line: &[u8]) {
+fn run(line: &[u8])
+    requires { ⌜ 1 ≤ length (now line) ⌝ }
+{
+    let device = lines::device_of(line);
     let room = lines::room(line);
     let mut words = io::buffer();
     let n = lines::bytes(line, room.end, line.len(), &mut words);
@@ -76,11 +81,11 @@ fn run(line: &[u8]) {
         return lines::malformed();
     }
     let request = request_in(&words);
-    print_layout(frame::layout_of(request));
+    print_layout(frame::layout_of(device, request));
     lines::print(b"prologue\n");
-    show_code(room.value, request, false);
+    show_code(room.value, device, request, false);
     lines::print(b"epilogue\n");
-    show_code(room.value, request, true);
+    show_code(room.value, device, request, true);
 }
 
 fn main() {

@@ -1,4 +1,6 @@
-// Reads an argument list from standard input, at most 2,048 bytes, and prints its call image or its refusal.
+// Reads an argument list from standard input, at most 2,048 bytes, and prints its call image for the device with a floating-point
+// unit, or its refusal.
+use device::Device;
 use libc::STDIN_FILENO;
 use libc::STDOUT_FILENO;
 
@@ -20,7 +22,7 @@ fn main() {
     let mut list = [0u8; 2048];
     let n = io::read_full(STDIN_FILENO, &mut list);
     let mut image = [0u8; 1056];
-    let answer = call::write(&list[..n], &mut image);
+    let answer = call::write(Device::Fpu, &list[..n], &mut image);
     if answer.refusal == 0 {
         let length = answer.length;
         print_image(&image[..length]);

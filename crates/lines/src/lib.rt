@@ -5,6 +5,7 @@ ghost use mathlib.Core.Path.{_≡_};
 ghost use Prim.Native.Nat.{_+_, _<_, _≤_};
 ghost use lib.ListN.{length};
 use answers::Answer;
+use device::Device;
 use libc::STDOUT_FILENO;
 
 // What a malformed number or field counts as: more than a buffer has.
@@ -252,4 +253,15 @@ pub fn is_case(line: &[u8]) -> bool
         return false;
     }
     line[0] != b'#'
+}
+
+// The device of a case: a word with an n before it names the one without a floating-point unit.
+pub fn device_of(line: &[u8]) -> Device
+    requires { ⌜ 1 ≤ length (now line) ⌝ }
+{
+    if line[0] == b'n' {
+        Device::NoFpu
+    } else {
+        Device::Fpu
+    }
 }

@@ -1,4 +1,4 @@
--- The walk over records: what holds at each turn, at the end, and where a record is refused.
+-- The walk over records: what holds at each turn, at the end, and where a record is refused, on every device.
 -- Assumes nothing.
 use mathlib.Core.Path.{_≡_, refl, sym, ap, _∙_, subst}
 use mathlib.Core.List.{List}
@@ -6,6 +6,8 @@ use mathlib.Core.Bool.{Bool}
 use Prim.Native.Nat.{ℕ, _+_, _-_, _^_, _≤_, _<_}
 use native.Mathlib.Omega.{arith}
 use lib.ListN.{length, getD}
+use Rattle.device.specs.declared.Device.{Device}
+use Rattle.device.specs.declared.Device.the-variants.{Fpu}
 use Rattle.carried.specs.Image.{Placed}
 use Rattle.carried.specs.Convention.{Plan, bad, good, also, behind, taken, plan}
 use Rattle.carried.proofs.Records.{onFrom, finished, stopped, within, passed}
@@ -39,47 +41,52 @@ further-none (M.Accepted m e) = ap (λ (x : ℕ). M.Accepted x e) (omega arith)
 -- at this place and state, behind records of n bytes, the walk has found what the whole list has
 pub record Walking (bodies : Bool) (list : List ℕ) (st : State) (n at : ℕ) : Type 0 where
   pub inside : at ≤ length list
-  pub ahead : measured (plan O32 bodies list) ≡ further n (measured (onFrom O32 bodies list at st))
+  pub ahead : (d : Device) → measured (plan (O32 d) bodies list) ≡ further n (measured (onFrom (O32 d) bodies list at st))
   pub held : Held n 0 st
 
-pub walk-starts : (bodies : Bool) (list : List ℕ) (st : State) → st ≡ O32 .start → Walking bodies list st 0 0
+pub walk-starts : (bodies : Bool) (list : List ℕ) (st : State) → ((d : Device) → st ≡ O32 d .start) → Walking bodies list st 0 0
 walk-starts bodies list st e = record {
   inside = omega arith;
-  ahead = rw e (sym (further-none (measured (plan O32 bodies list))));
-  held = rw e held-starts;
+  ahead = λ d. rw (e d) (sym (further-none (measured (plan (O32 d) bodies list))));
+  held = rw (e Fpu) (held-starts Fpu);
 }
 
-pub walk-ends : (bodies : Bool) (list : List ℕ) (st : State) (n at : ℕ) → Walking bodies list st n at → length list ≤ at → M.Accepted n (st .end) ≡ measured (plan O32 bodies list)
-walk-ends bodies list st n at w h =
-    sym (w .ahead ∙ ap (λ (q : Plan State). further n (measured q)) (finished O32 bodies list at st (w .inside) h) ∙ ap (λ (x : ℕ). M.Accepted x (st .end)) (omega arith))
+pub walk-ends : (bodies : Bool) (list : List ℕ) (st : State) (n at : ℕ) → Walking bodies list st n at → length list ≤ at → (d : Device) → M.Accepted n (st .end) ≡ measured (plan (O32 d) bodies list)
+walk-ends bodies list st n at w h d =
+    sym (w .ahead d ∙ ap (λ (q : Plan State). further n (measured q)) (finished (O32 d) bodies list at st (w .inside) h) ∙ ap (λ (x : ℕ). M.Accepted x (st .end)) (omega arith))
 
 pub walk-counts : (bodies : Bool) (list : List ℕ) (st : State) (n at : ℕ) → Walking bodies list st n at → n ≤ 1057
 walk-counts bodies list st n at w = omega (arith, held-place n 0 st (w .held))
 
 module _ (bodies : Bool) (list : List ℕ) (st : State) (n at : ℕ) (w : Walking bodies list st n at) (h : at < length list)
-    (t : Record) (e : t ≡ recordOf (taken O32 bodies (length list - (at + 1)) st (getD list at 0))) where
+    (t : Record) (e : (d : Device) → t ≡ recordOf (taken (O32 d) bodies (length list - (at + 1)) st (getD list at 0))) where
   abbrev k : ℕ
   k = getD list at 0
 
-  pub walk-refused : (r : ℕ) (m : Measured) → t ≡ R.Refused r → m ≡ M.Refused r at → m ≡ measured (plan O32 bodies list)
-  walk-refused r m g q = q ∙ sym (w .ahead ∙ ap (λ (p : Plan State). further n (measured p)) (stopped O32 bodies list at st h r (step-refused _ r (sym e ∙ g))))
+  pub walk-refused : (r : ℕ) (m : Measured) → t ≡ R.Refused r → m ≡ M.Refused r at → (d : Device) → m ≡ measured (plan (O32 d) bodies list)
+  walk-refused r m g q d =
+      q ∙ sym (w .ahead d ∙ ap (λ (p : Plan State). further n (measured p)) (stopped (O32 d) bodies list at st h r (step-refused _ r (sym (e d) ∙ g))))
 
   module _ (kd : Kind) (st′ : State) (g : t ≡ R.Taken kd st′) where
-    here : Took bodies (length list - (at + 1)) st k kd st′
-    here = took bodies st k (length list - (at + 1)) kd st′ (sym g ∙ e)
+    here : (d : Device) → Took d bodies (length list - (at + 1)) st k kd st′
+    here d = took d bodies st k (length list - (at + 1)) kd st′ (sym g ∙ e d)
 
-    grew : Grown st (kindOf k) (placement st (kindOf k)) (onward st (kindOf k))
-    grew = subst (Grows st (kindOf k)) (here .placed .step) (grows st (kindOf k) (kind-sound k))
+    -- what no device decides is told by one
+    one : Took Fpu bodies (length list - (at + 1)) st k kd st′
+    one = here Fpu
+
+    grew : Grown st (kindOf k) (placement Fpu st (kindOf k)) (onward st (kindOf k))
+    grew = subst (Grows st (kindOf k)) (one .placed .step) (grows Fpu st (kindOf k) (kind-sound k))
 
     size-is : kd .size ≡ kindOf k .size
-    size-is = ap (λ (x : Kind). x .size) (here .kind)
+    size-is = ap (λ (x : Kind). x .size) (one .kind)
 
     pub walk-adds : n + 1 + kd .size < 2 ^ 64
     walk-adds = omega (arith, walk-counts bodies list st n at w, size-is, kind-sound k .small)
 
     module _ (b : ℕ) (i : b ≡ behind bodies (kd .size)) where
       walk-within : at + 1 + b ≤ length list
-      walk-within = rw (i, here .kind) (within O32 bodies list at st h (placement st (kindOf k)) (onward st (kindOf k)) (here .placed .whole))
+      walk-within = rw (i, one .kind) (within (O32 Fpu) bodies list at st h (placement Fpu st (kindOf k)) (onward st (kindOf k)) (one .placed .whole))
 
       pub walk-fits : length list < 2 ^ 64 → at + 1 + b < 2 ^ 64
       walk-fits l = omega (arith, walk-within)
@@ -88,11 +95,11 @@ module _ (bodies : Bool) (list : List ℕ) (st : State) (n at : ℕ) (w : Walkin
       walk-less = omega (arith, walk-within)
 
       pub walk-goes : Walking bodies list st′ (n + 1 + kd .size) (at + 1 + b)
-      walk-goes = rw (here .state) (record {
+      walk-goes = rw (one .state) (record {
         inside = walk-within;
-        ahead =
-            rw (i, here .kind) (w .ahead
-            ∙ ap (λ (q : Plan State). further n (measured q)) (passed O32 bodies list at st h (placement st (kindOf k)) (onward st (kindOf k)) (here .placed .whole))
-            ∙ further-also n (O32 .placedAt k (placement st (kindOf k))) (onFrom O32 bodies list (at + 1 + behind bodies (kindOf k .size)) (onward st (kindOf k))));
-        held = held-on (w .held) grew (here .placed .fits) (n + 1 + kd .size) 0 (omega (arith, size-is));
+        ahead = λ d.
+            rw (i, one .kind) (w .ahead d
+            ∙ ap (λ (q : Plan State). further n (measured q)) (passed (O32 d) bodies list at st h (placement d st (kindOf k)) (onward st (kindOf k)) (here d .placed .whole))
+            ∙ further-also n (O32 d .placedAt k (placement d st (kindOf k))) (onFrom (O32 d) bodies list (at + 1 + behind bodies (kindOf k .size)) (onward st (kindOf k))));
+        held = held-on (w .held) grew (one .placed .fits) (n + 1 + kd .size) 0 (omega (arith, size-is));
       })

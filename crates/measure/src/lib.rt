@@ -1,7 +1,9 @@
-// The first walk over the records of a list or a signature.
+// The first walk over the records of a list or a signature. What is refused, and where the last argument ends, is the same on
+// every device.
 ghost use mathlib.Core.Bool.{false, true};
 ghost use mathlib.Core.Path.{_≡_};
 ghost use Prim.Native.Nat.{ℕ};
+ghost use Rattle.device.specs.declared.Device.{Device};
 ghost use Rattle.carried.specs.Convention.{plan};
 ghost use Rattle.o32.specs.O32.{O32};
 ghost use Rattle.measure.specs.Measured.{measured};
@@ -25,7 +27,7 @@ fn refusal(answer: Record, place: usize) -> Measured
 
 // The walk over the records of a list (bodies) or of a signature.
 fn measure(list: &[u8], bodies: bool) -> Measured
-    ensures { λ r. ⌜ r ≡ measured (plan O32 bodies (now (list .entry))) ⌝ }
+    ensures { λ r. ⌜ ((d : Device) → r ≡ measured (plan (O32 d) bodies (now (list .entry)))) ⌝ }
 {
     let mut st = records::start();
     let mut length = 0;
@@ -48,14 +50,14 @@ fn measure(list: &[u8], bodies: bool) -> Measured
 
 // The records of a list: refusals 1 to 5 with their place, or the length of the list and its last argument's end.
 pub fn measure_list(list: &[u8]) -> Measured
-    ensures { λ r. ⌜ r ≡ measured (plan O32 true (now (list .entry))) ⌝ }
+    ensures { λ r. ⌜ ((d : Device) → r ≡ measured (plan (O32 d) true (now (list .entry)))) ⌝ }
 {
     measure(list, true)
 }
 
 // The records of a signature: refusals 1, 2, 3 and 5 with their place, or the length of the list and its last argument's end.
 pub fn measure_signature(signature: &[u8]) -> Measured
-    ensures { λ r. ⌜ r ≡ measured (plan O32 false (now (signature .entry))) ⌝ }
+    ensures { λ r. ⌜ ((d : Device) → r ≡ measured (plan (O32 d) false (now (signature .entry)))) ⌝ }
 {
     measure(signature, false)
 }

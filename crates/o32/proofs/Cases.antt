@@ -1,4 +1,5 @@
--- The twelve bench cases that are to be proved: one table, one theorem, by computation. And the edges, likewise.
+-- The twelve bench cases that are to be proved, and request (ii)'s of document 02: one table, one theorem, by computation. And the
+-- edges, likewise.
 -- Assumes nothing.
 use mathlib.Core.List.{List, [], _∷_, _++_}
 use mathlib.Core.Bool.{Bool, true, false, _&&_}
@@ -6,13 +7,15 @@ use Prim.Native.Nat.{ℕ}
 use lib.Dec.{T, eqb}
 use lib.ListN.{replicate}
 use Rattle.words.specs.Words.{bytesOf, same}
+use Rattle.device.specs.declared.Device.{Device}
+use Rattle.device.specs.declared.Device.the-variants.{Fpu, NoFpu}
 use Rattle.carried.specs.Image.{Answer, done, refused}
 use Rattle.carried.specs.Convention.{write, read}
 use Rattle.o32.specs.O32.{O32}
 
--- a list, and its image by words: $4 to $7, $f12 to $f15, the area
+-- a device and a list, and its image by words: $4 to $7, $f12 to $f15, the area
 data Case : Type 0 where
-  case : List ℕ → List ℕ → List ℕ → List ℕ → Case
+  on : Device → List ℕ → List ℕ → List ℕ → List ℕ → Case
 
 abbrev wordBytes : List ℕ → List ℕ
 wordBytes [] = []
@@ -24,7 +27,7 @@ gives (refused r at) expected = false
 
 abbrev hold : List Case → Bool
 hold [] = true
-hold (case list general floating area ∷ cases) = gives (write O32 list) (wordBytes (general ++ floating ++ area)) && hold cases
+hold (on d list general floating area ∷ cases) = gives (write (O32 d) list) (wordBytes (general ++ floating ++ area)) && hold cases
 
 -- records: a word, a single, a double, a return pointer, a marker
 abbrev n : ℕ → List ℕ
@@ -44,6 +47,10 @@ marker = 0x0A ∷ []
 
 abbrev none : List ℕ
 none = 0 ∷ 0 ∷ 0 ∷ 0 ∷ []
+
+-- a bench case of document 01, whose device has a floating-point unit
+abbrev case : List ℕ → List ℕ → List ℕ → List ℕ → Case
+case = on Fpu
 
 abbrev table : List Case
 table =
@@ -72,6 +79,9 @@ table =
     -- n, then 53 (20 bytes)
     ∷ case (n 0x11121314 ++ (0x53 ∷ wordBytes (0x51525354 ∷ 0x61626364 ∷ 0x71727374 ∷ 0x81828384 ∷ 0x91929394 ∷ [])))
     (0x11121314 ∷ 0x51525354 ∷ 0x61626364 ∷ 0x71727374 ∷ []) none (none ++ (0x81828384 ∷ 0x91929394 ∷ []))
+    -- without a floating-point unit: d,s,d
+    ∷ on NoFpu (d 0xD1D2D3D4D5D6D7D8 ++ s 0xA1A2A3A4 ++ d 0xE1E2E3E4E5E6E7E8) (0xD1D2D3D4 ∷ 0xD5D6D7D8 ∷ 0xA1A2A3A4 ∷ 0 ∷ []) none
+    (none ++ (0xE1E2E3E4 ∷ 0xE5E6E7E8 ∷ []))
     ∷ []
 
 bench-cases : T (hold table)
@@ -82,11 +92,11 @@ abbrev refuses : Answer → ℕ → ℕ → Bool
 refuses (done img) number place = false
 refuses (refused r at) number place = eqb r number && eqb at place
 
-edges : T (refuses (read O32 (replicate 32 0x05) []) 6 0
-    && refuses (read O32 (replicate 33 0x05) []) 3 32
-    && refuses (read O32 (0xFF ∷ 0xFF ∷ []) []) 6 0
-    && refuses (read O32 (0xFF ∷ 0xFF ∷ 0x05 ∷ []) []) 5 2
-    && refuses (write O32 (0x05 ∷ 0 ∷ [])) 4 0
-    && refuses (write O32 marker) 2 0
-    && refuses (read O32 (0x01 ∷ []) (wordBytes (0x80 ∷ replicate 11 0))) 8 0)
+edges : T (refuses (read (O32 Fpu) (replicate 32 0x05) []) 6 0
+    && refuses (read (O32 Fpu) (replicate 33 0x05) []) 3 32
+    && refuses (read (O32 Fpu) (0xFF ∷ 0xFF ∷ []) []) 6 0
+    && refuses (read (O32 Fpu) (0xFF ∷ 0xFF ∷ 0x05 ∷ []) []) 5 2
+    && refuses (write (O32 Fpu) (0x05 ∷ 0 ∷ [])) 4 0
+    && refuses (write (O32 Fpu) marker) 2 0
+    && refuses (read (O32 Fpu) (0x01 ∷ []) (wordBytes (0x80 ∷ replicate 11 0))) 8 0)
 edges = tt

@@ -4,6 +4,8 @@ use mathlib.Core.Bool.{Bool, true, false, cond, not, _&&_, _||_}
 use Prim.Native.Nat.{ℕ, zero, suc, _+_, _-_, _*_, max}
 use lib.Dec.{eqb, leb, ltb}
 use Rattle.words.specs.Words.{up}
+use Rattle.device.specs.declared.Device.{Device}
+use Rattle.device.specs.declared.Device.the-variants.{Fpu, NoFpu}
 use Rattle.carried.specs.Convention.{Step, refuse, next, Convention}
 use Rattle.o32.specs.declared.Class.the-variants.{Unknown, Marker, Pointer, Float}
 use Rattle.o32.specs.declared.Kind.{Kind}
@@ -12,13 +14,16 @@ use Rattle.o32.specs.declared.Placement.{Placement}
 use Rattle.o32.specs.Kinds.{kindOf, is}
 use Rattle.o32.specs.Offsets.{extension, width, offset, ending}
 
--- Rule 3. The floating register of an argument, or 0. "If the first argument is s or d, it goes to `$f12`. If it is and the
--- second is s or d before any marker, that one goes to `$f14`. .. No other argument uses these registers. A return pointer
--- counts as first."
-abbrev pub register : State → Kind → ℕ
-register st k =
-    cond (is Float k && eqb (st .count) 0) 12
-    (cond (is Float k && eqb (st .count) 1 && st .floating && not (st .marked)) 14 0)
+-- Rule 3. The floating register of a single or double, or 0. "If the first argument is s or d, it goes to `$f12`. If it is and
+-- the second is s or d before any marker, that one goes to `$f14`. .. A return pointer counts as first." Without a floating-point
+-- unit (request (ii) of document 02) "no floating register is used".
+abbrev pub floatRegister : Device → State → ℕ
+floatRegister NoFpu st = 0
+floatRegister Fpu st = cond (eqb (st .count) 0) 12 (cond (eqb (st .count) 1 && st .floating && not (st .marked)) 14 0)
+
+-- "No other argument uses these registers."
+abbrev pub register : Device → State → Kind → ℕ
+register d st k = cond (is Float k) (floatRegister d st) 0
 
 -- Rule 3, as request (i) of document 02 mends it. The registers that hold a float's bytes, in the order of the bytes. A single
 -- is in its register. A double takes the pair, and "the even floating register holds the low half and the odd one the high half":
@@ -76,24 +81,24 @@ onward st k = cond (is Marker k)
     })
 
 -- The placement of a record: rules 2 and 3.
-abbrev pub placement : State → Kind → Placement
-placement st k = record { kind = k; offset = offset k (st .end); register = register st k }
+abbrev pub placement : Device → State → Kind → Placement
+placement d st k = record { kind = k; offset = offset k (st .end); register = register d st k }
 
 -- Refusals 1, 2 and 3 in their order, or the record's placement.
-abbrev pub stepped : State → Kind → Step Placement State
-stepped st k =
+abbrev pub stepped : Device → State → Kind → Step Placement State
+stepped d st k =
     cond (is Unknown k) (refuse 1)
     (cond (misplaced st k) (refuse 2)
     (cond (full st k) (refuse 3)
-    (next (placement st k) (onward st k))))
+    (next (placement d st k) (onward st k))))
 
--- The convention. "The end may be at most 1,024" (rule 5, refusal 5). "Its length is 32 + A".
-abbrev pub O32 : Convention
-O32 = record {
+-- The convention on a device: only rule 3 looks at it. "The end may be at most 1,024" (rule 5, refusal 5). "Its length is 32 + A".
+abbrev pub O32 : Device → Convention
+O32 d = record {
   State = State;
   Placement = Placement;
   start = record { end = 0; count = 0; pointer = false; floating = false; marked = false };
-  step = λ st k. stepped st (kindOf k);
+  step = λ st k. stepped d st (kindOf k);
   placedAt = λ k p. record { kind = k; size = p .kind .size; extension = extension (p .kind); carriers = carriers p };
   fits = λ st. leb (st .end) 1024;
   imageLength = λ st. 32 + area (st .end);

@@ -9,6 +9,7 @@ use native.Mathlib.Omega.{arith}
 use lib.ListN.{length}
 use lib.Dec.{leb, ltb}
 use borrow.Author.Tests.{leb-true, leb-false}
+use Rattle.device.specs.declared.Device.{Device}
 use Rattle.carried.specs.Image.{Placed}
 use Rattle.carried.specs.Convention.{Step, refuse, next, Plan, bad, good, also, behind, limited, after, from, plan}
 use Rattle.o32.specs.declared.Class.the-variants.{Unknown, Marker, Signed, Unsigned}
@@ -48,7 +49,7 @@ not-full : (t a : Bool) → not t && a ≡ false → t ≡ false → a ≡ false
 not-full true a e f = cc
 not-full false a e f = e
 
-module _ (st : State) (k : Kind) (s : Sound k) where
+module _ (d : Device) (st : State) (k : Kind) (s : Sound k) where
   size-le : k .size ≤ width k
   size-le = go (is Signed k || is Unsigned k) refl
     where
@@ -56,32 +57,32 @@ module _ (st : State) (k : Kind) (s : Sound k) where
       go true e = omega (arith, s .promoted e)
       go false e = omega arith
 
-  grown : is Unknown k ≡ false → misplaced st k ≡ false → full st k ≡ false → Grown st k (placement st k) (onward st k)
-  grown d e f = go (is Marker k) refl
+  grown : is Unknown k ≡ false → misplaced st k ≡ false → full st k ≡ false → Grown st k (placement d st k) (onward st k)
+  grown u e f = go (is Marker k) refl
     where
-      go : (t : Bool) → is Marker k ≡ t → Grown st k (placement st k) (onward st k)
+      go : (t : Bool) → is Marker k ≡ t → Grown st k (placement d st k) (onward st k)
       go true g =
           let m : st .marked ≡ false = unmarked (is Marker k) (st .marked) _ _ e g in
           let z : (k .size ≡ 0) × (k .alignment ≡ 0) = s .markers g in
           record { size = refl; more = rw (g, m) (omega arith); few = rw g (λ h. h) }
       go false g =
           let n : leb 32 (st .count) ≡ false = not-full (is Marker k) (leb 32 (st .count)) f g in
-          let a : 1 ≤ k .alignment = s .aligned (rw (d, g) refl) in
+          let a : 1 ≤ k .alignment = s .aligned (rw (u, g) refl) in
           record {
             size = refl;
             more = rw g (omega (arith, up-ge (k .alignment) (st .end) a, up-ge 4 (width k) (omega arith), size-le));
             few = rw g (λ h. omega (arith, leb-false 32 (st .count) n));
           }
 
-  pub grows : Grows st k (stepped st k)
+  pub grows : Grows st k (stepped d st k)
   grows = go (is Unknown k) (misplaced st k) (full st k) refl refl refl
     where
       go : (u m f : Bool) → is Unknown k ≡ u → misplaced st k ≡ m → full st k ≡ f
-          → Grows st k (cond u (refuse 1) (cond m (refuse 2) (cond f (refuse 3) (next (placement st k) (onward st k)))))
-      go true m f d e g = tt
-      go false true f d e g = tt
-      go false false true d e g = tt
-      go false false false d e g = grown d e g
+          → Grows st k (cond u (refuse 1) (cond m (refuse 2) (cond f (refuse 3) (next (placement d st k) (onward st k)))))
+      go true m f h e g = tt
+      go false true f h e g = tt
+      go false false true h e g = tt
+      go false false false h e g = grown h e g
 
 -- ---- all steps
 
@@ -91,8 +92,8 @@ pub record Held (at n : ℕ) (st : State) : Type 0 where
   pub fits : st .end ≤ 1024
   few : st .count ≤ 32
 
-pub held-starts : Held 0 0 (O32 .start)
-held-starts = record { before = omega arith; fits = omega arith; few = omega arith }
+pub held-starts : (d : Device) → Held 0 0 (O32 d .start)
+held-starts d = record { before = omega arith; fits = omega arith; few = omega arith }
 
 -- a record that is placed passes on what holds, to any byte of it and behind it
 pub held-on : {at : ℕ} {st st′ : State} {k : Kind} {p : Placement} → Held at 0 st → Grown st k p st′ → st′ .end ≤ 1024 → (a b : ℕ) → a + b ≤ at + 1 + k .size → Held a b st′
@@ -123,42 +124,42 @@ also-reaches : (n m : ℕ) (s : Placed) (q : Plan State) → n ≡ m → Reaches
 also-reaches n m s (bad r p) e h = h
 also-reaches n m s (good L last) e h = record { long = omega (arith, h .long); fits = h .fits }
 
-reaches : (bodies : Bool) (l : List ℕ) (at n : ℕ) (st : State) → Held at n st → Reaches (at + length l) (from O32 bodies at st n l)
-reaches bodies [] at n st h = record { long = omega (arith, held-place at n st h); fits = h .fits }
-reaches bodies (b ∷ l) at (suc n) st h =
-    subst (λ (m : ℕ). Reaches m (from O32 bodies (suc at) st n l)) (omega arith)
-    (reaches bodies l (suc at) n st (record { before = omega (arith, h .before); fits = h .fits; few = h .few }))
-reaches bodies (k ∷ l) at zero st h = go (O32 .step st k) (grows st (kindOf k) (kind-sound k)) (λ n st′ w. reaches bodies l (suc at) n st′ w)
+reaches : (d : Device) (bodies : Bool) (l : List ℕ) (at n : ℕ) (st : State) → Held at n st → Reaches (at + length l) (from (O32 d) bodies at st n l)
+reaches d bodies [] at n st h = record { long = omega (arith, held-place at n st h); fits = h .fits }
+reaches d bodies (b ∷ l) at (suc n) st h =
+    subst (λ (m : ℕ). Reaches m (from (O32 d) bodies (suc at) st n l)) (omega arith)
+    (reaches d bodies l (suc at) n st (record { before = omega (arith, h .before); fits = h .fits; few = h .few }))
+reaches d bodies (k ∷ l) at zero st h = go (O32 d .step st k) (grows d st (kindOf k) (kind-sound k)) (λ n st′ w. reaches d bodies l (suc at) n st′ w)
   where
     here : at ≤ 1057
     here = omega (arith, held-place at 0 st h)
 
     fit : (p : Placement) (st′ : State) → Grown st (kindOf k) p st′ → (t u : Bool) → leb (st′ .end) 1024 ≡ u
-        → ((n : ℕ) (st″ : State) → Held (suc at) n st″ → Reaches (suc at + length l) (from O32 bodies (suc at) st″ n l))
-        → Reaches (at + length (k ∷ l)) (after O32 at k (cond t (refuse 4) (cond u (next p st′) (refuse 5))) (λ size st″. from O32 bodies (suc at) st″ (behind bodies size) l))
+        → ((n : ℕ) (st″ : State) → Held (suc at) n st″ → Reaches (suc at + length l) (from (O32 d) bodies (suc at) st″ n l))
+        → Reaches (at + length (k ∷ l)) (after (O32 d) at k (cond t (refuse 4) (cond u (next p st′) (refuse 5))) (λ size st″. from (O32 d) bodies (suc at) st″ (behind bodies size) l))
     fit p st′ g true u f rest = here
     fit p st′ g false false f rest = here
     fit p st′ g false true f rest =
         let n : ℕ = behind bodies (p .kind .size) in
         let w : Held (suc at) n st′ = held-on h g (leb-true (st′ .end) 1024 f) (suc at) n (omega (arith, g .size, behind-le bodies (p .kind .size))) in
-        also-reaches (suc at + length l) (at + length (k ∷ l)) (O32 .placedAt k p) (from O32 bodies (suc at) st′ n l) (omega arith) (rest n st′ w)
+        also-reaches (suc at + length l) (at + length (k ∷ l)) (O32 d .placedAt k p) (from (O32 d) bodies (suc at) st′ n l) (omega arith) (rest n st′ w)
 
     go : (s : Step Placement State) → Grows st (kindOf k) s
-        → ((n : ℕ) (st′ : State) → Held (suc at) n st′ → Reaches (suc at + length l) (from O32 bodies (suc at) st′ n l))
-        → Reaches (at + length (k ∷ l)) (after O32 at k (limited O32 bodies (length l) k s) (λ size st′. from O32 bodies (suc at) st′ (behind bodies size) l))
+        → ((n : ℕ) (st′ : State) → Held (suc at) n st′ → Reaches (suc at + length l) (from (O32 d) bodies (suc at) st′ n l))
+        → Reaches (at + length (k ∷ l)) (after (O32 d) at k (limited (O32 d) bodies (length l) k s) (λ size st′. from (O32 d) bodies (suc at) st′ (behind bodies size) l))
     go (refuse r) g rest = here
     go (next p st′) g rest = fit p st′ g (ltb (length l) (behind bodies (p .kind .size))) (leb (st′ .end) 1024) refl rest
 
 -- ---- a whole list or signature
 
-module _ (bodies : Bool) (l : List ℕ) where
-  planned : Reaches (0 + length l) (plan O32 bodies l)
-  planned = reaches bodies l 0 0 (O32 .start) held-starts
+module _ (d : Device) (bodies : Bool) (l : List ℕ) where
+  planned : Reaches (0 + length l) (plan (O32 d) bodies l)
+  planned = reaches d bodies l 0 0 (O32 d .start) (held-starts d)
 
-  pub place-bound : (r p : ℕ) → plan O32 bodies l ≡ bad r p → p ≤ 1057
+  pub place-bound : (r p : ℕ) → plan (O32 d) bodies l ≡ bad r p → p ≤ 1057
   place-bound r p e = subst (Reaches (0 + length l)) e planned
 
-  pub plan-bound : (L : List Placed) (last : State) → plan O32 bodies l ≡ good L last → Reached (length l) last
+  pub plan-bound : (L : List Placed) (last : State) → plan (O32 d) bodies l ≡ good L last → Reached (length l) last
   plan-bound L last e =
       let w : Reached (0 + length l) last = subst (Reaches (0 + length l)) e planned in
       record { long = omega (arith, w .long); fits = w .fits }

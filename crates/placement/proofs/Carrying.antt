@@ -1,4 +1,4 @@
--- The law of carried bytes, for every argument of every accepted signature.
+-- The law of carried bytes, for every argument of every accepted signature on every device.
 -- Assumes nothing.
 use mathlib.Core.Path.{_≡_, refl, sym, ap, _∙_, subst}
 use mathlib.Core.Logic.{_⊎_, inl, inr}
@@ -11,6 +11,8 @@ use lib.ListN.{length, getD, List·getD-append}
 use lib.Seq.{getD-append-add}
 use lib.Dec.{eqb}
 use borrow.Author.Tests.{lt-ltb, le-ltb, ne-eqb, eqb-true}
+use Rattle.device.specs.declared.Device.{Device}
+use Rattle.device.specs.declared.Device.the-variants.{Fpu, NoFpu}
 use Rattle.carried.specs.Image.{Placed}
 use Rattle.carried.specs.Convention.{good, plan}
 use Rattle.carried.proofs.Walks.{Walk, one, walk-of}
@@ -20,7 +22,7 @@ use Rattle.o32.specs.declared.State.{State}
 use Rattle.o32.specs.declared.Placement.{Placement}
 use Rattle.o32.specs.Kinds.{kindOf, is, classNumber}
 use Rattle.o32.specs.Offsets.{width, offset, ending}
-use Rattle.o32.specs.O32.{register, run, floatRegisters, registerBytes, floatBytes, carrier, carriers, misplaced, onward, placement, O32}
+use Rattle.o32.specs.O32.{floatRegister, register, run, floatRegisters, registerBytes, floatBytes, carrier, carriers, misplaced, onward, placement, O32}
 use Rattle.placement.specs.Carrying.{endOf, registerBehind, CarriedAt}
 use Rattle.placement.proofs.KindFacts.{kind-sound}
 use Rattle.placement.proofs.Steps.{Stepped, Says, says}
@@ -60,79 +62,82 @@ late-reach : (ks : List ℕ) (st : State) → Late st → Late (reach st ks)
 late-reach [] st h = h
 late-reach (k ∷ ks) st h = late-reach ks (onward st (kindOf k)) (late-on st (kindOf k) h)
 
-late-register : (st : State) (k : Kind) → Late st → register st k ≡ 0
-late-register st k (inl n) = rw (ne-eqb (st .count) 0 (λ e. omega arith), ne-eqb (st .count) 1 (λ e. omega arith), and-false (is Float k))
-late-register st k (inr n) = rw (ne-eqb (st .count) 0 (λ e. omega arith), n .1, and-false (is Float k), and-false (is Float k && eqb (st .count) 1 && st .floating))
+late-register : (st : State) → Late st → floatRegister Fpu st ≡ 0
+late-register st (inl n) = rw (ne-eqb (st .count) 0 (λ e. omega arith), ne-eqb (st .count) 1 (λ e. omega arith))
+late-register st (inr n) = rw (ne-eqb (st .count) 0 (λ e. omega arith), n .1, and-false (eqb (st .count) 1 && st .floating))
 
 -- ---- a walk over an accepted signature, taken apart at its first record
 
-record First (st : State) (k : ℕ) (ks : List ℕ) (L : List Placed) (last : State) : Type 0 where
+record First (d : Device) (st : State) (k : ℕ) (ks : List ℕ) (L : List Placed) (last : State) : Type 0 where
   place : Placement
   behind : State
   rest : List Placed
-  stepped-so : Stepped st (kindOf k) place behind
-  records : L ≡ O32 .placedAt k place ∷ rest
-  walk : Walk O32 O32-laws behind ks rest last
+  stepped-so : Stepped d st (kindOf k) place behind
+  records : L ≡ O32 d .placedAt k place ∷ rest
+  walk : Walk (O32 d) (O32-laws d) behind ks rest last
 
-first : {st : State} {k : ℕ} {ks : List ℕ} {L : List Placed} {last : State} → Walk O32 O32-laws st (k ∷ ks) L last → First st k ks L last
-first {st} (one {st′ = st′} {k = k} {p = p} {L = L} e f w) = record {
+first : {d : Device} {st : State} {k : ℕ} {ks : List ℕ} {L : List Placed} {last : State} → Walk (O32 d) (O32-laws d) st (k ∷ ks) L last → First d st k ks L last
+first {d} {st} (one {st′ = st′} {k = k} {p = p} {L = L} e f w) = record {
   place = p;
   behind = st′;
   rest = L;
-  stepped-so = subst (Says st (kindOf k)) e (says st (kindOf k));
+  stepped-so = subst (Says d st (kindOf k)) e (says d st (kindOf k));
   records = refl;
   walk = w;
 }
 
 -- the walk behind the first record, from the state that the record leads to
-then : {st : State} {k : ℕ} {ks : List ℕ} {L : List Placed} {last : State} (w : First st k ks L last) → Walk O32 O32-laws (onward st (kindOf k)) ks (w .rest) last
-then {ks = ks} {last = last} w = subst (λ (x : State). Walk O32 O32-laws x ks (w .rest) last) (w .stepped-so .on) (w .walk)
+then : {d : Device} {st : State} {k : ℕ} {ks : List ℕ} {L : List Placed} {last : State} (w : First d st k ks L last) → Walk (O32 d) (O32-laws d) (onward st (kindOf k)) ks (w .rest) last
+then {d = d} {ks = ks} {last = last} w = subst (λ (x : State). Walk (O32 d) (O32-laws d) x ks (w .rest) last) (w .stepped-so .on) (w .walk)
 
 -- the record of this kind is placed by the state behind the kinds before
-placed-so : (before : List ℕ) (st : State) (k : ℕ) (behind : List ℕ) (L : List Placed) (last : State) → Walk O32 O32-laws st (before ++ (k ∷ behind)) L last
-    → (M : List Placed) (s : Placed) (N : List Placed) → L ≡ M ++ (s ∷ N) → length M ≡ length before → s ≡ O32 .placedAt k (placement (reach st before) (kindOf k))
-placed-so [] st k behind L last w [] s N e h =
-    let a : First st k behind L last = first w in
-    let i : s ≡ O32 .placedAt k (a .place) = cc (a .records) in
-    i ∙ ap (O32 .placedAt k) (a .stepped-so .at)
-placed-so [] st k behind L last w (m ∷ M) s N e h = absurd (omega arith)
-placed-so (j ∷ before) st k behind L last w [] s N e h = absurd (omega arith)
-placed-so (j ∷ before) st k behind L last w (m ∷ M) s N e h =
-    let a : First st j (before ++ (k ∷ behind)) L last = first w in
+placed-so : (d : Device) (before : List ℕ) (st : State) (k : ℕ) (behind : List ℕ) (L : List Placed) (last : State) → Walk (O32 d) (O32-laws d) st (before ++ (k ∷ behind)) L last
+    → (M : List Placed) (s : Placed) (N : List Placed) → L ≡ M ++ (s ∷ N) → length M ≡ length before → s ≡ O32 d .placedAt k (placement d (reach st before) (kindOf k))
+placed-so d [] st k behind L last w [] s N e h =
+    let a : First d st k behind L last = first w in
+    let i : s ≡ O32 d .placedAt k (a .place) = cc (a .records) in
+    i ∙ ap (O32 d .placedAt k) (a .stepped-so .at)
+placed-so d [] st k behind L last w (m ∷ M) s N e h = absurd (omega arith)
+placed-so d (j ∷ before) st k behind L last w [] s N e h = absurd (omega arith)
+placed-so d (j ∷ before) st k behind L last w (m ∷ M) s N e h =
+    let a : First d st j (before ++ (k ∷ behind)) L last = first w in
     let i : a .rest ≡ M ++ (s ∷ N) = cc (a .records) in
-    placed-so before (onward st (kindOf j)) k behind (a .rest) last (then a) M s N i (omega arith)
+    placed-so d before (onward st (kindOf j)) k behind (a .rest) last (then a) M s N i (omega arith)
 
 -- ---- rule 3 by the kinds before
 
-no-marker-first : (k : Kind) → misplaced (O32 .start) k ≡ false → is Marker k ≡ false
-no-marker-first k h = go (is Marker k) refl
+no-marker-first : (d : Device) (k : Kind) → misplaced (O32 d .start) k ≡ false → is Marker k ≡ false
+no-marker-first d k h = go (is Marker k) refl
   where
     go : (t : Bool) → is Marker k ≡ t → is Marker k ≡ false
     go false e = e
     go true e = let z : true ≡ false = rw e at h in cc
 
-register-so : (before : List ℕ) (k : ℕ) (behind : List ℕ) (L : List Placed) (last : State) → Walk O32 O32-laws (O32 .start) (before ++ (k ∷ behind)) L last
-    → register (reach (O32 .start) before) (kindOf k) ≡ registerBehind before k
-register-so [] k behind L last w = go (is Float (kindOf k)) refl
-  where
-    go : (t : Bool) → is Float (kindOf k) ≡ t → register (O32 .start) (kindOf k) ≡ cond (is Float (kindOf k)) 12 0
-    go true e = rw e
-    go false e = rw e
-register-so (j ∷ []) k behind L last w =
-    let n : is Marker (kindOf j) ≡ false = no-marker-first (kindOf j) (first w .stepped-so .rightly) in
+none : (t : Bool) → _≡_ {A = ℕ} (cond t 0 0) 0
+none true = refl
+none false = refl
+
+register-so : (d : Device) (before : List ℕ) (k : ℕ) (behind : List ℕ) (L : List Placed) (last : State)
+    → Walk (O32 d) (O32-laws d) (O32 d .start) (before ++ (k ∷ behind)) L last → register d (reach (O32 d .start) before) (kindOf k) ≡ registerBehind d before k
+register-so NoFpu before k behind L last w = none (is Float (kindOf k))
+register-so Fpu [] k behind L last w = refl
+register-so Fpu (j ∷ []) k behind L last w =
+    let n : is Marker (kindOf j) ≡ false = no-marker-first Fpu (kindOf j) (first {d = Fpu} w .stepped-so .rightly) in
     go n (is Float (kindOf j)) (is Float (kindOf k)) refl refl
   where
     go : is Marker (kindOf j) ≡ false → (t u : Bool) → is Float (kindOf j) ≡ t → is Float (kindOf k) ≡ u
-        → register (onward (O32 .start) (kindOf j)) (kindOf k) ≡ cond (is Float (kindOf j) && is Float (kindOf k)) 14 0
+        → register Fpu (onward (O32 Fpu .start) (kindOf j)) (kindOf k) ≡ cond (is Float (kindOf j) && is Float (kindOf k)) 14 0
     go n true true d e = rw (n, d, e)
     go n true false d e = rw (n, d, e)
     go n false true d e = rw (n, d, e)
     go n false false d e = rw (n, d, e)
-register-so (j ∷ i ∷ js) k behind L last w =
-    let n : is Marker (kindOf j) ≡ false = no-marker-first (kindOf j) (first w .stepped-so .rightly) in
-    late-register (reach (O32 .start) (j ∷ i ∷ js)) (kindOf k) (late-reach js (onward (onward (O32 .start) (kindOf j)) (kindOf i)) (go n (is Marker (kindOf i)) refl))
+register-so Fpu (j ∷ i ∷ js) k behind L last w =
+    let n : is Marker (kindOf j) ≡ false = no-marker-first Fpu (kindOf j) (first {d = Fpu} w .stepped-so .rightly) in
+    let z : floatRegister Fpu (reach (O32 Fpu .start) (j ∷ i ∷ js)) ≡ 0 =
+    late-register (reach (O32 Fpu .start) (j ∷ i ∷ js)) (late-reach js (onward (onward (O32 Fpu .start) (kindOf j)) (kindOf i)) (go n (is Marker (kindOf i)) refl)) in
+    ap (λ (f : ℕ). cond (is Float (kindOf k)) f 0) z ∙ none (is Float (kindOf k))
   where
-    go : is Marker (kindOf j) ≡ false → (t : Bool) → is Marker (kindOf i) ≡ t → Late (onward (onward (O32 .start) (kindOf j)) (kindOf i))
+    go : is Marker (kindOf j) ≡ false → (t : Bool) → is Marker (kindOf i) ≡ t → Late (onward (onward (O32 Fpu .start) (kindOf j)) (kindOf i))
     go n true e = inr (rw (e, n) (omega arith, refl))
     go n false e = inl (rw (e, n) (omega arith))
 
@@ -163,61 +168,62 @@ getD-register (f ∷ fs) (suc j) i l h =
     rw e (getD-append-add (run (16 + 4 * (f - 12)) 4) (registerBytes fs) (4 * j + i) 0 ∙ getD-register fs j i (omega arith) h)
 
 -- only floats have a floating register
-floats-only : (before : List ℕ) (k : ℕ) → 1 ≤ registerBehind before k → is Float (kindOf k) ≡ true
-floats-only [] k h = go (is Float (kindOf k)) h
+floats-only : (d : Device) (before : List ℕ) (k : ℕ) → 1 ≤ registerBehind d before k → is Float (kindOf k) ≡ true
+floats-only NoFpu before k h = absurd (omega arith)
+floats-only Fpu [] k h = go (is Float (kindOf k)) h
   where
     go : (t : Bool) → 1 ≤ cond t 12 0 → t ≡ true
     go true h = refl
     go false h = absurd (omega arith)
-floats-only (j ∷ []) k h = go (is Float (kindOf j)) (is Float (kindOf k)) h
+floats-only Fpu (j ∷ []) k h = go (is Float (kindOf j)) (is Float (kindOf k)) h
   where
     go : (t u : Bool) → 1 ≤ cond (t && u) 14 0 → u ≡ true
     go t true h = refl
     go true false h = absurd (omega arith)
     go false false h = absurd (omega arith)
-floats-only (j ∷ i ∷ js) k h = absurd (omega arith)
+floats-only Fpu (j ∷ i ∷ js) k h = absurd (omega arith)
 
 pub float-width : (k : Kind) → is Float k ≡ true → width k ≡ k .size
 float-width k e = rw (eqb-true (classNumber (k .class)) 5 e)
 
 -- ---- the law
 
-module _ (before : List ℕ) (k : ℕ) (s : Placed)
-    (is-so : s ≡ O32 .placedAt k (record { kind = kindOf k; offset = offset (kindOf k) (endOf 0 before); register = registerBehind before k })) where
+module _ (d : Device) (before : List ℕ) (k : ℕ) (s : Placed)
+    (is-so : s ≡ O32 d .placedAt k (record { kind = kindOf k; offset = offset (kindOf k) (endOf 0 before); register = registerBehind d before k })) where
   abbrev cs : List ℕ
   cs = s .carriers
 
-  so : cs ≡ carriers (record { kind = kindOf k; offset = offset (kindOf k) (endOf 0 before); register = registerBehind before k })
+  so : cs ≡ carriers (record { kind = kindOf k; offset = offset (kindOf k) (endOf 0 before); register = registerBehind d before k })
   so = ap (λ (x : Placed). x .carriers) is-so
 
-  by-offset : registerBehind before k ≡ 0 → cs ≡ map carrier (run (offset (kindOf k) (endOf 0 before)) (width (kindOf k)))
+  by-offset : registerBehind d before k ≡ 0 → cs ≡ map carrier (run (offset (kindOf k) (endOf 0 before)) (width (kindOf k)))
   by-offset z = so ∙ rw z
 
-  by-register : 1 ≤ registerBehind before k → cs ≡ floatBytes (registerBehind before k) (kindOf k .size)
-  by-register h = so ∙ rw (ne-eqb (registerBehind before k) 0 (λ e. omega arith))
+  by-register : 1 ≤ registerBehind d before k → cs ≡ floatBytes (registerBehind d before k) (kindOf k .size)
+  by-register h = so ∙ rw (ne-eqb (registerBehind d before k) 0 (λ e. omega arith))
 
-  carried-long : (r : ℕ) → registerBehind before k ≡ r → length cs ≡ width (kindOf k)
+  carried-long : (r : ℕ) → registerBehind d before k ≡ r → length cs ≡ width (kindOf k)
   carried-long zero e = ap length (by-offset e) ∙ length-span (width (kindOf k)) (offset (kindOf k) (endOf 0 before))
   carried-long (suc r) e =
-      let f : is Float (kindOf k) ≡ true = floats-only before k (omega arith) in
-      ap length (by-register (omega arith)) ∙ length-float (registerBehind before k) (kindOf k .size) (kind-sound k .floats f) ∙ sym (float-width (kindOf k) f)
+      let f : is Float (kindOf k) ≡ true = floats-only d before k (omega arith) in
+      ap length (by-register (omega arith)) ∙ length-float (registerBehind d before k) (kindOf k .size) (kind-sound k .floats f) ∙ sym (float-width (kindOf k) f)
 
-  at-byte : registerBehind before k ≡ 0 → (o i : ℕ) → o ≡ offset (kindOf k) (endOf 0 before) → i < length cs → getD cs i 0 ≡ carrier (o + i)
+  at-byte : registerBehind d before k ≡ 0 → (o i : ℕ) → o ≡ offset (kindOf k) (endOf 0 before) → i < length cs → getD cs i 0 ≡ carrier (o + i)
   at-byte z o i e h =
       ap (λ (x : List ℕ). getD x i 0) (by-offset z) ∙ getD-span (width (kindOf k)) (offset (kindOf k) (endOf 0 before)) i (omega (arith, carried-long 0 z)) ∙ rw e
 
   -- byte i of word j of a float
-  in-register : 1 ≤ registerBehind before k → {n : ℕ} → kindOf k .size ≡ n → (j i p : ℕ) → j < length (floatRegisters (registerBehind before k) n) → i < 4 → p ≡ 4 * j + i
-      → getD cs p 0 ≡ 16 + 4 * (getD (floatRegisters (registerBehind before k) n) j 0 - 12) + i
+  in-register : 1 ≤ registerBehind d before k → {n : ℕ} → kindOf k .size ≡ n → (j i p : ℕ) → j < length (floatRegisters (registerBehind d before k) n) → i < 4 → p ≡ 4 * j + i
+      → getD cs p 0 ≡ 16 + 4 * (getD (floatRegisters (registerBehind d before k) n) j 0 - 12) + i
   in-register h {n} z j i p m l e =
-      let q : cs ≡ floatBytes (registerBehind before k) n = by-register h ∙ ap (floatBytes (registerBehind before k)) z in
-      rw (q, e) (getD-register (floatRegisters (registerBehind before k) n) j i m l)
+      let q : cs ≡ floatBytes (registerBehind d before k) n = by-register h ∙ ap (floatBytes (registerBehind d before k)) z in
+      rw (q, e) (getD-register (floatRegisters (registerBehind d before k) n) j i m l)
 
-  law : CarriedAt before k s
+  law : CarriedAt d before k s
   law = record {
     size = ap (λ (x : Placed). x .size) is-so;
     promotion = ap (λ (x : Placed). x .extension) is-so;
-    long = carried-long (registerBehind before k) refl;
+    long = carried-long (registerBehind d before k) refl;
     low = λ z o i e h l. at-byte z o i e h ∙ carrier-low (o + i) l;
     high = λ z o i e h l. at-byte z o i e h ∙ carrier-high (o + i) l;
     single = λ f e h z i l. rw (← e) (in-register (omega arith) z 0 i i (omega arith) l (omega arith));
@@ -226,10 +232,10 @@ module _ (before : List ℕ) (k : ℕ) (s : Placed)
   }
 
 -- At every accepted signature, the record of every kind byte is carried so.
-pub carried-at : (before : List ℕ) (k : ℕ) (behind : List ℕ) (L : List Placed) (last : State) → plan O32 false (before ++ (k ∷ behind)) ≡ good L last
-    → (M : List Placed) (s : Placed) (N : List Placed) → L ≡ M ++ (s ∷ N) → length M ≡ length before → CarriedAt before k s
-carried-at before k behind L last ok M s N e h =
-    let w : Walk O32 O32-laws (O32 .start) (before ++ (k ∷ behind)) L last = walk-of O32 O32-laws (before ++ (k ∷ behind)) (O32 .start) L last 0 ok in
-    law before k s
-    (placed-so before (O32 .start) k behind L last w M s N e h
-    ∙ rw (reach-end before (O32 .start), register-so before k behind L last w))
+pub carried-at : (d : Device) (before : List ℕ) (k : ℕ) (behind : List ℕ) (L : List Placed) (last : State) → plan (O32 d) false (before ++ (k ∷ behind)) ≡ good L last
+    → (M : List Placed) (s : Placed) (N : List Placed) → L ≡ M ++ (s ∷ N) → length M ≡ length before → CarriedAt d before k s
+carried-at d before k behind L last ok M s N e h =
+    let w : Walk (O32 d) (O32-laws d) (O32 d .start) (before ++ (k ∷ behind)) L last = walk-of (O32 d) (O32-laws d) (before ++ (k ∷ behind)) (O32 d .start) L last 0 ok in
+    law d before k s
+    (placed-so d before (O32 d .start) k behind L last w M s N e h
+    ∙ rw (reach-end before (O32 d .start), register-so d before k behind L last w))

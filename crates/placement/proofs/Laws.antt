@@ -1,4 +1,5 @@
--- What each step of O32 gives: the image bytes of a record are new and inside the image. So the carried-bytes theorem holds of it.
+-- What each step of O32 gives, on every device: the image bytes of a record are new and inside the image. So the carried-bytes theorem
+-- holds of it.
 -- Assumes nothing.
 use mathlib.Core.Path.{_≡_, refl, sym, ap, _∙_, subst}
 use mathlib.Core.Logic.{_⊎_, inl, inr}
@@ -11,6 +12,8 @@ use lib.ListN.{length, length-append, length-replicate, length-map}
 use lib.Dec.{eqb, ltb}
 use borrow.Author.Tests.{ltb-true, ltb-false, eqb-true}
 use Rattle.words.specs.Words.{up, Extension, zeros, toWord, promote, front}
+use Rattle.device.specs.declared.Device.{Device}
+use Rattle.device.specs.declared.Device.the-variants.{Fpu, NoFpu}
 use Rattle.carried.specs.Image.{Placed}
 use Rattle.carried.specs.Convention.{Step, refuse, next, good, plan}
 use Rattle.carried.specs.Demand.{In, Distinct, Carried, RoundTrip}
@@ -25,7 +28,7 @@ use Rattle.o32.specs.declared.State.{State}
 use Rattle.o32.specs.declared.Placement.{Placement}
 use Rattle.o32.specs.Kinds.{kindOf}
 use Rattle.o32.specs.Offsets.{ending}
-use Rattle.o32.specs.O32.{run, floatRegisters, registerBytes, floatBytes, carrier, area, misplaced, full, onward, stepped, O32}
+use Rattle.o32.specs.O32.{floatRegister, run, floatRegisters, registerBytes, floatBytes, carrier, area, misplaced, full, onward, stepped, O32}
 use Rattle.placement.proofs.KindFacts.{Sound, kind-sound}
 
 -- ---- the next multiple
@@ -176,36 +179,6 @@ long-mono a b h = omega arith
 
 -- ---- the steps
 
--- an argument by its offset: m bytes from o on
-module _ (st : State) (k n : ℕ) (e : Extension) (o m : ℕ) (st′ : State) where
-  laid : st .end ≤ o → o + m ≤ st′ .end → st .count ≤ st′ .count → ((b : List ℕ) → length b ≡ n → length (promote e b) ≡ m)
-      → StepLaws O32 Free st k (record { kind = k; size = n; extension = e; carriers = span o m }) st′
-  laid h g l z = record {
-    kind = refl;
-    sized = λ b x. z b x ∙ sym (length-span m o);
-    apart = span-distinct m o;
-    free = λ p i. inl (behind-mono (st .end) o p h (span-at m o p i .from));
-    used = λ p i. laid-used o (o + m) (st′ .end) (st′ .count) p g (span-at m o p i);
-    keeps = λ p. unused-mono (st .end) (st′ .end) (st .count) (st′ .count) p (omega arith) l;
-    inside = λ p i. omega (arith, span-at m o p i .inside, up-ge 8 (st′ .end) (omega arith));
-    grows = long-mono (st .end) (st′ .end) (omega arith);
-  }
-
--- a float in the register pair f
-module _ (st : State) (k n f : ℕ) (st′ : State) where
-  floated : 12 ≤ f → 4 * (f - 12) ≡ 8 * st .count → st .count < 2 → (n ≡ 4) ⊎ (n ≡ 8) → st .end ≤ st′ .end → st′ .count ≡ st .count + 1
-      → StepLaws O32 Free st k (record { kind = k; size = n; extension = zeros 0; carriers = floatBytes f n }) st′
-  floated h q c z g l = record {
-    kind = refl;
-    sized = λ b x. x ∙ sym (length-float f n z);
-    apart = float-distinct f n h z;
-    free = λ p i. inr (omega (arith, float-at f n p h z i));
-    used = λ p i. rw l (float-used (st′ .end) (st .count) p c (omega (arith, float-at f n p h z i)));
-    keeps = λ p. unused-mono (st .end) (st′ .end) (st .count) (st′ .count) p g (omega arith);
-    inside = λ p i. omega (arith, float-at f n p h z i);
-    grows = long-mono (st .end) (st′ .end) g;
-  }
-
 -- a byte or halfword becomes a word
 word-length : (s : Bool) (n : ℕ) (b : List ℕ) → n ≤ 4 → length b ≡ n → length (promote (toWord s n) b) ≡ 4
 word-length true n b h e = length-append (front (toWord true n) b) b ∙ rw length-replicate (omega arith)
@@ -218,58 +191,95 @@ and-left : (a b : Bool) → a && b ≡ true → a ≡ true
 and-left true b t = refl
 and-left false b t = t
 
-abbrev Gives : State → ℕ → Step Placement State → Type 0
-Gives st k s = StepLawful O32 Free st k s
+module _ (d : Device) where
+  -- an argument by its offset: m bytes from o on
+  module _ (st : State) (k n : ℕ) (e : Extension) (o m : ℕ) (st′ : State) where
+    laid : st .end ≤ o → o + m ≤ st′ .end → st .count ≤ st′ .count → ((b : List ℕ) → length b ≡ n → length (promote e b) ≡ m)
+        → StepLaws (O32 d) Free st k (record { kind = k; size = n; extension = e; carriers = span o m }) st′
+    laid h g l z = record {
+      kind = refl;
+      sized = λ b x. z b x ∙ sym (length-span m o);
+      apart = span-distinct m o;
+      free = λ p i. inl (behind-mono (st .end) o p h (span-at m o p i .from));
+      used = λ p i. laid-used o (o + m) (st′ .end) (st′ .count) p g (span-at m o p i);
+      keeps = λ p. unused-mono (st .end) (st′ .end) (st .count) (st′ .count) p (omega arith) l;
+      inside = λ p i. omega (arith, span-at m o p i .inside, up-ge 8 (st′ .end) (omega arith));
+      grows = long-mono (st .end) (st′ .end) (omega arith);
+    }
 
-unless : (st : State) (k : ℕ) (t : Bool) (r : ℕ) (s : Step Placement State) → Gives st k s → Gives st k (cond t (refuse r) s)
-unless st k true r s h = tt
-unless st k false r s h = h
+  -- a float in the register pair f
+  module _ (st : State) (k n f : ℕ) (st′ : State) where
+    floated : 12 ≤ f → 4 * (f - 12) ≡ 8 * st .count → st .count < 2 → (n ≡ 4) ⊎ (n ≡ 8) → st .end ≤ st′ .end → st′ .count ≡ st .count + 1
+        → StepLaws (O32 d) Free st k (record { kind = k; size = n; extension = zeros 0; carriers = floatBytes f n }) st′
+    floated h q c z g l = record {
+      kind = refl;
+      sized = λ b x. x ∙ sym (length-float f n z);
+      apart = float-distinct f n h z;
+      free = λ p i. inr (omega (arith, float-at f n p h z i));
+      used = λ p i. rw l (float-used (st′ .end) (st .count) p c (omega (arith, float-at f n p h z i)));
+      keeps = λ p. unused-mono (st .end) (st′ .end) (st .count) (st′ .count) p g (omega arith);
+      inside = λ p i. omega (arith, float-at f n p h z i);
+      grows = long-mono (st .end) (st′ .end) g;
+    }
 
-module _ (st : State) (k n a : ℕ) where
-  abbrev of : Class → Kind
-  of c = record { size = n; alignment = a; class = c }
+  abbrev Gives : State → ℕ → Step Placement State → Type 0
+  Gives st k s = StepLawful (O32 d) Free st k s
 
-  by-offset : (e : Extension) (m : ℕ) (st′ : State) → st′ .end ≡ up a (st .end) + up 4 m → st′ .count ≡ st .count + 1 → 1 ≤ a
-      → ((b : List ℕ) → length b ≡ n → length (promote e b) ≡ m) → StepLaws O32 Free st k (record { kind = k; size = n; extension = e; carriers = span (up a (st .end)) m }) st′
-  by-offset e m st′ x y h = laid st k n e (up a (st .end)) m st′ (up-ge a (st .end) h) (omega (arith, ends (up a (st .end)) m)) (omega arith)
+  unless : (st : State) (k : ℕ) (t : Bool) (r : ℕ) (s : Step Placement State) → Gives st k s → Gives st k (cond t (refuse r) s)
+  unless st k true r s h = tt
+  unless st k false r s h = h
 
-  grown : Sound (of Float) → st .end ≤ ending (of Float) (st .end)
-  grown s = omega (arith, up-ge a (st .end) (s .aligned refl), ends (up a (st .end)) n)
+  module _ (st : State) (k n a : ℕ) where
+    abbrev of : Class → Kind
+    of c = record { size = n; alignment = a; class = c }
 
-  by-register : (t u : Bool) → eqb (st .count) 0 ≡ t → eqb (st .count) 1 && st .floating && not (st .marked) ≡ u → Sound (of Float)
-      → Gives st k (next (record { kind = of Float; offset = up a (st .end); register = cond t 12 (cond u 14 0) }) (onward st (of Float)))
-  by-register true u e f s =
-      let z : st .count ≡ 0 = eqb-true (st .count) 0 e in
-      floated st k n 12 (onward st (of Float)) (omega arith) (omega arith) (omega arith) (s .floats refl) (grown s) refl
-  by-register false true e f s =
-      let z : st .count ≡ 1 = eqb-true (st .count) 1 (and-left (eqb (st .count) 1) (st .floating) (and-left (eqb (st .count) 1 && st .floating) (not (st .marked)) f)) in
-      floated st k n 14 (onward st (of Float)) (omega arith) (omega arith) (omega arith) (s .floats refl) (grown s) refl
-  by-register false false e f s = by-offset (zeros 0) n _ refl refl (s .aligned refl) (λ b x. x)
+    by-offset : (e : Extension) (m : ℕ) (st′ : State) → st′ .end ≡ up a (st .end) + up 4 m → st′ .count ≡ st .count + 1 → 1 ≤ a
+        → ((b : List ℕ) → length b ≡ n → length (promote e b) ≡ m) → StepLaws (O32 d) Free st k (record { kind = k; size = n; extension = e; carriers = span (up a (st .end)) m }) st′
+    by-offset e m st′ x y h = laid st k n e (up a (st .end)) m st′ (up-ge a (st .end) h) (omega (arith, ends (up a (st .end)) m)) (omega arith)
 
-  step-gives : (c : Class) → Sound (of c) → Gives st k (stepped st (of c))
-  step-gives Unknown s = tt
-  step-gives Marker s = unless st k (misplaced st (of Marker)) 2 _
-      (rw (s .markers refl .0) (laid st k 0 (zeros 0) (st .end) 0 _ (omega arith) (omega arith) (omega arith) (λ b x. x)))
-  step-gives Pointer s =
-      unless st k (misplaced st (of Pointer)) 2 _ (unless st k (full st (of Pointer)) 3 _ (by-offset (zeros 0) n _ refl refl (s .aligned refl) (λ b x. x)))
-  step-gives Signed s =
-      unless st k (full st (of Signed)) 3 _ (by-offset (toWord true n) 4 _ refl refl (s .aligned refl) (λ b. word-length true n b (omega (arith, s .promoted refl))))
-  step-gives Unsigned s =
-      unless st k (full st (of Unsigned)) 3 _ (by-offset (toWord false n) 4 _ refl refl (s .aligned refl) (λ b. word-length false n b (omega (arith, s .promoted refl))))
-  step-gives Float s =
-      unless st k (full st (of Float)) 3 _ (by-register (eqb (st .count) 0) (eqb (st .count) 1 && st .floating && not (st .marked)) refl refl s)
-  step-gives Plain s = unless st k (full st (of Plain)) 3 _ (by-offset (zeros 0) n _ refl refl (s .aligned refl) (λ b x. x))
+    grown : Sound (of Float) → st .end ≤ ending (of Float) (st .end)
+    grown s = omega (arith, up-ge a (st .end) (s .aligned refl), ends (up a (st .end)) n)
 
-pub O32-laws : Laws O32
-O32-laws = record {
-  Free = Free;
-  steps = λ st k. step-gives st k (kindOf k .size) (kindOf k .alignment) (kindOf k .class) (kind-sound k);
-}
+    -- a float with this register of rule 3, or by offset
+    abbrev Placing : ℕ → Type 0
+    Placing f = Gives st k (next (record { kind = of Float; offset = up a (st .end); register = f }) (onward st (of Float)))
 
--- The carried-bytes theorem of O32, at every accepted signature.
-pub O32-carried : (sig : List ℕ) (L : List Placed) (last : State) → plan O32 false sig ≡ good L last → Carried O32 sig L (32 + area (last .end))
-O32-carried sig L last ok = theorem O32 O32-laws sig L last ok
+    by-register : (t u : Bool) → eqb (st .count) 0 ≡ t → eqb (st .count) 1 && st .floating && not (st .marked) ≡ u → Sound (of Float) → Placing (cond t 12 (cond u 14 0))
+    by-register true u e f s =
+        let z : st .count ≡ 0 = eqb-true (st .count) 0 e in
+        floated st k n 12 (onward st (of Float)) (omega arith) (omega arith) (omega arith) (s .floats refl) (grown s) refl
+    by-register false true e f s =
+        let z : st .count ≡ 1 = eqb-true (st .count) 1 (and-left (eqb (st .count) 1) (st .floating) (and-left (eqb (st .count) 1 && st .floating) (not (st .marked)) f)) in
+        floated st k n 14 (onward st (of Float)) (omega arith) (omega arith) (omega arith) (s .floats refl) (grown s) refl
+    by-register false false e f s = by-offset (zeros 0) n _ refl refl (s .aligned refl) (λ b x. x)
 
--- And reading what its writer wrote gives the list back, for every accepted list.
-pub O32-round-trip : (l : List ℕ) (L : List Placed) (last : State) → plan O32 true l ≡ good L last → RoundTrip O32 l L last
-O32-round-trip l L last ok = round-trip O32 O32-laws l L last ok
+    by-device : (e : Device) → Sound (of Float) → Placing (floatRegister e st)
+    by-device Fpu s = by-register (eqb (st .count) 0) (eqb (st .count) 1 && st .floating && not (st .marked)) refl refl s
+    by-device NoFpu s = by-offset (zeros 0) n _ refl refl (s .aligned refl) (λ b x. x)
+
+    step-gives : (c : Class) → Sound (of c) → Gives st k (stepped d st (of c))
+    step-gives Unknown s = tt
+    step-gives Marker s = unless st k (misplaced st (of Marker)) 2 _
+        (rw (s .markers refl .0) (laid st k 0 (zeros 0) (st .end) 0 _ (omega arith) (omega arith) (omega arith) (λ b x. x)))
+    step-gives Pointer s =
+        unless st k (misplaced st (of Pointer)) 2 _ (unless st k (full st (of Pointer)) 3 _ (by-offset (zeros 0) n _ refl refl (s .aligned refl) (λ b x. x)))
+    step-gives Signed s =
+        unless st k (full st (of Signed)) 3 _ (by-offset (toWord true n) 4 _ refl refl (s .aligned refl) (λ b. word-length true n b (omega (arith, s .promoted refl))))
+    step-gives Unsigned s =
+        unless st k (full st (of Unsigned)) 3 _ (by-offset (toWord false n) 4 _ refl refl (s .aligned refl) (λ b. word-length false n b (omega (arith, s .promoted refl))))
+    step-gives Float s = unless st k (full st (of Float)) 3 _ (by-device d s)
+    step-gives Plain s = unless st k (full st (of Plain)) 3 _ (by-offset (zeros 0) n _ refl refl (s .aligned refl) (λ b x. x))
+
+  pub O32-laws : Laws (O32 d)
+  O32-laws = record {
+    Free = Free;
+    steps = λ st k. step-gives st k (kindOf k .size) (kindOf k .alignment) (kindOf k .class) (kind-sound k);
+  }
+
+  -- The carried-bytes theorem of O32, on every device, at every accepted signature.
+  pub O32-carried : (sig : List ℕ) (L : List Placed) (last : State) → plan (O32 d) false sig ≡ good L last → Carried (O32 d) sig L (32 + area (last .end))
+  O32-carried sig L last ok = theorem (O32 d) O32-laws sig L last ok
+
+  -- And reading what its writer wrote gives the list back, for every accepted list.
+  pub O32-round-trip : (l : List ℕ) (L : List Placed) (last : State) → plan (O32 d) true l ≡ good L last → RoundTrip (O32 d) l L last
+  O32-round-trip l L last ok = round-trip (O32 d) O32-laws l L last ok

@@ -8,6 +8,8 @@ use native.Mathlib.Omega.{arith}
 use native.Mathlib.Nat.{mul-zero}
 use lib.Dec.{eqb}
 use borrow.Author.Tests.{eqb-true}
+use Rattle.device.specs.declared.Device.{Device}
+use Rattle.device.specs.declared.Device.the-variants.{Fpu, NoFpu}
 use Rattle.carried.specs.Convention.{Step, refuse, next}
 use Rattle.o32.specs.declared.Class.the-variants.{Unknown, Marker, Float}
 use Rattle.o32.specs.declared.Kind.{Kind}
@@ -16,31 +18,31 @@ use Rattle.o32.specs.declared.Placement.{Placement}
 use Rattle.o32.specs.Kinds.{kindOf, is, classNumber}
 use Rattle.words.specs.Words.{up}
 use Rattle.o32.specs.Offsets.{width, offset}
-use Rattle.o32.specs.O32.{register, misplaced, full, onward, placement, stepped, O32}
+use Rattle.o32.specs.O32.{floatRegister, register, misplaced, full, onward, placement, stepped, O32}
 use Rattle.placement.proofs.KindFacts.{kind-sound}
 use Rattle.placement.proofs.Laws.{up-ge}
 
-pub record Stepped (st : State) (k : Kind) (p : Placement) (st′ : State) : Type 0 where
-  pub at : p ≡ placement st k
+pub record Stepped (d : Device) (st : State) (k : Kind) (p : Placement) (st′ : State) : Type 0 where
+  pub at : p ≡ placement d st k
   pub on : st′ ≡ onward st k
   pub rightly : misplaced st k ≡ false
   pub few : full st k ≡ false
 
-abbrev pub Says : State → Kind → Step Placement State → Type 0
-Says st k (refuse r) = Unit {0}
-Says st k (next p st′) = Stepped st k p st′
+abbrev pub Says : Device → State → Kind → Step Placement State → Type 0
+Says d st k (refuse r) = Unit {0}
+Says d st k (next p st′) = Stepped d st k p st′
 
-pub says : (st : State) (k : Kind) → Says st k (stepped st k)
-says st k = go (is Unknown k) (misplaced st k) (full st k) refl refl
+pub says : (d : Device) (st : State) (k : Kind) → Says d st k (stepped d st k)
+says d st k = go (is Unknown k) (misplaced st k) (full st k) refl refl
   where
-    go : (u m f : Bool) → misplaced st k ≡ m → full st k ≡ f → Says st k (cond u (refuse 1) (cond m (refuse 2) (cond f (refuse 3) (next (placement st k) (onward st k)))))
+    go : (u m f : Bool) → misplaced st k ≡ m → full st k ≡ f → Says d st k (cond u (refuse 1) (cond m (refuse 2) (cond f (refuse 3) (next (placement d st k) (onward st k)))))
     go true m f e g = tt
     go false true f e g = tt
     go false false true e g = tt
     go false false false e g = record { at = refl; on = refl; rightly = e; few = g }
 
-pub step-says : (st : State) (k : ℕ) (p : Placement) (st′ : State) → O32 .step st k ≡ next p st′ → Stepped st (kindOf k) p st′
-step-says st k p st′ e = subst (Says st (kindOf k)) e (says st (kindOf k))
+pub step-says : (d : Device) (st : State) (k : ℕ) (p : Placement) (st′ : State) → O32 d .step st k ≡ next p st′ → Stepped d st (kindOf k) p st′
+step-says d st k p st′ e = subst (Says d st (kindOf k)) e (says d st (kindOf k))
 
 -- ---- where a record ends
 
@@ -73,16 +75,21 @@ word-aligned k end = go (kindOf k .alignment) (kind-sound k .alignments)
     go a (inr (inr e)) = rw e (omega arith)
 
 -- a floating register is $f12 or $f14, and its argument a float
-abbrev rule-3 : (t a b c d : Bool) → ℕ
-rule-3 t a b c d = cond (t && a) 12 (cond (t && b && c && d) 14 0)
+abbrev Named : ℕ → Type 0
+Named f = (f ≡ 12) ⊎ (f ≡ 14)
 
-pub register-floats : (st : State) (k : Kind) → 1 ≤ register st k → (is Float k ≡ true) × ((register st k ≡ 12) ⊎ (register st k ≡ 14))
-register-floats st k h = go (is Float k) (eqb (st .count) 0) (eqb (st .count) 1) (st .floating) (not (st .marked)) h
+float-named : (d : Device) (st : State) → 1 ≤ floatRegister d st → Named (floatRegister d st)
+float-named NoFpu st h = absurd (omega arith)
+float-named Fpu st h = go (eqb (st .count) 0) (eqb (st .count) 1 && st .floating && not (st .marked)) h
   where
-    go : (t a b c d : Bool) → 1 ≤ rule-3 t a b c d → (t ≡ true) × ((rule-3 t a b c d ≡ 12) ⊎ (rule-3 t a b c d ≡ 14))
-    go true true b c d h = (refl, inl refl)
-    go true false true true true h = (refl, inr refl)
-    go true false true true false h = absurd (omega arith)
-    go true false true false d h = absurd (omega arith)
-    go true false false c d h = absurd (omega arith)
-    go false a b c d h = absurd (omega arith)
+    go : (t u : Bool) → 1 ≤ cond t 12 (cond u 14 0) → Named (cond t 12 (cond u 14 0))
+    go true u h = inl refl
+    go false true h = inr refl
+    go false false h = absurd (omega arith)
+
+pub register-floats : (d : Device) (st : State) (k : Kind) → 1 ≤ register d st k → (is Float k ≡ true) × ((register d st k ≡ 12) ⊎ (register d st k ≡ 14))
+register-floats d st k h = go (is Float k) h
+  where
+    go : (t : Bool) → 1 ≤ cond t (floatRegister d st) 0 → (t ≡ true) × Named (cond t (floatRegister d st) 0)
+    go true h = (refl, float-named d st h)
+    go false h = absurd (omega arith)

@@ -4,6 +4,8 @@ use mathlib.Core.List.{List, [], _∷_}
 use mathlib.Core.Bool.{cond, _&&_}
 use Prim.Native.Nat.{ℕ, _+_, _-_, _*_, _≤_, _<_}
 use lib.ListN.{length, getD}
+use Rattle.device.specs.declared.Device.{Device}
+use Rattle.device.specs.declared.Device.the-variants.{Fpu, NoFpu}
 use Rattle.carried.specs.Image.{Placed}
 use Rattle.o32.specs.declared.Class.the-variants.{Marker, Float}
 use Rattle.o32.specs.Kinds.{kindOf, is}
@@ -15,26 +17,28 @@ endOf end [] = end
 endOf end (k ∷ ks) = endOf (cond (is Marker (kindOf k)) end (ending (kindOf k) end)) ks
 
 -- Rule 3. The floating register of a kind behind these: $f12 for a first s or d, $f14 for one that is second, directly behind
--- an s or d, and 0 for every other argument.
-abbrev pub registerBehind : List ℕ → ℕ → ℕ
-registerBehind [] k = cond (is Float (kindOf k)) 12 0
-registerBehind (j ∷ []) k = cond (is Float (kindOf j) && is Float (kindOf k)) 14 0
-registerBehind (j ∷ i ∷ js) k = 0
+-- an s or d, and 0 for every other argument. Without a floating-point unit (request (ii) of document 02) "All arguments go by
+-- offset".
+abbrev pub registerBehind : Device → List ℕ → ℕ → ℕ
+registerBehind NoFpu before k = 0
+registerBehind Fpu [] k = cond (is Float (kindOf k)) 12 0
+registerBehind Fpu (j ∷ []) k = cond (is Float (kindOf j) && is Float (kindOf k)) 14 0
+registerBehind Fpu (j ∷ i ∷ js) k = 0
 
 -- "Byte i (from 0) of an argument at offset o is carried by image byte o + i where o + i is below 16, else by image byte
 -- 32 + o + i. An argument of rule 3 has instead the bytes of the register words which that rule names, in its order."
-pub record CarriedAt (before : List ℕ) (k : ℕ) (s : Placed) : Type 0 where
+pub record CarriedAt (d : Device) (before : List ℕ) (k : ℕ) (s : Placed) : Type 0 where
   pub size : s .size ≡ kindOf k .size
   pub promotion : s .extension ≡ extension (kindOf k)
   pub long : length (s .carriers) ≡ width (kindOf k)
-  pub low : registerBehind before k ≡ 0 → (o i : ℕ) → o ≡ offset (kindOf k) (endOf 0 before) → i < length (s .carriers) → o + i < 16
+  pub low : registerBehind d before k ≡ 0 → (o i : ℕ) → o ≡ offset (kindOf k) (endOf 0 before) → i < length (s .carriers) → o + i < 16
       → getD (s .carriers) i 0 ≡ o + i
-  pub high : registerBehind before k ≡ 0 → (o i : ℕ) → o ≡ offset (kindOf k) (endOf 0 before) → i < length (s .carriers) → 16 ≤ o + i
+  pub high : registerBehind d before k ≡ 0 → (o i : ℕ) → o ≡ offset (kindOf k) (endOf 0 before) → i < length (s .carriers) → 16 ≤ o + i
       → getD (s .carriers) i 0 ≡ 32 + (o + i)
-  pub single : (f : ℕ) → registerBehind before k ≡ f → 1 ≤ f → kindOf k .size ≡ 4
+  pub single : (f : ℕ) → registerBehind d before k ≡ f → 1 ≤ f → kindOf k .size ≡ 4
       → (i : ℕ) → i < 4 → getD (s .carriers) i 0 ≡ 16 + 4 * (f - 12) + i
   -- of a double, as request (i) of document 02 mends rule 3: the first four bytes in the odd register, the next four in the even one
-  pub odd : (f : ℕ) → registerBehind before k ≡ f → 1 ≤ f → kindOf k .size ≡ 8
+  pub odd : (f : ℕ) → registerBehind d before k ≡ f → 1 ≤ f → kindOf k .size ≡ 8
       → (i : ℕ) → i < 4 → getD (s .carriers) i 0 ≡ 16 + 4 * (f + 1 - 12) + i
-  pub even : (f : ℕ) → registerBehind before k ≡ f → 1 ≤ f → kindOf k .size ≡ 8
+  pub even : (f : ℕ) → registerBehind d before k ≡ f → 1 ≤ f → kindOf k .size ≡ 8
       → (i : ℕ) → i < 4 → getD (s .carriers) (4 + i) 0 ≡ 16 + 4 * (f - 12) + i

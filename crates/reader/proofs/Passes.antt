@@ -9,6 +9,7 @@ use native.Mathlib.Numerals.{add-one}
 use lib.ListN.{length, getD, set, drop, length-append, length-drop}
 use lib.Seq.{drop-drop}
 use Rattle.words.specs.Words.{body, proper}
+use Rattle.device.specs.declared.Device.{Device}
 use Rattle.carried.specs.Image.{gather, put, Placed, reading}
 use Rattle.carried.specs.Convention.{plan}
 use Rattle.carried.proofs.Readings.{length-body, fits-carriers}
@@ -25,29 +26,29 @@ use Rattle.reader.specs.declared.Checked.the-variants as K
 use Rattle.reader.specs.Reading.{firstImproper, improperIn, readingIn, delivered, Readable}
 
 -- in a signature the next kind stands behind this one
-next-behind : {sig : List ℕ} {m : ℕ} (st : State) (at : ℕ) (w : Ahead false sig m st at) → at < length sig → (kd : Kind) → kd ≡ kindOf (getD sig at 0)
-    → (p : Placement) → p ≡ placement st kd → (st′ : State) → st′ ≡ onward st (p .kind) → Behind false sig m at (w .placed) p st′ (at + 1)
-next-behind {sig = sig} {m = m} st at w h kd e p g st′ o = ahead-turn false sig m st at w h kd e p g st′ o (at + 1) (omega arith)
+next-behind : {d : Device} {sig : List ℕ} {m : ℕ} (st : State) (at : ℕ) (w : Ahead d false sig m st at) → at < length sig → (kd : Kind) → kd ≡ kindOf (getD sig at 0)
+    → (p : Placement) → p ≡ placement d st kd → (st′ : State) → st′ ≡ onward st kd → Behind d false sig m at (w .placed) p st′ (at + 1)
+next-behind {d = d} {sig = sig} {m = m} st at w h kd e p g st′ o = ahead-turn d false sig m st at w h kd e p g st′ o (at + 1) (omega arith)
 
 -- ---- refusal 8
 
-pub record Checking (sig img : List ℕ) (found : Checked) (st : State) (at : ℕ) : Type 0 where
-  pub ahead : Ahead false sig (length img) st at
+pub record Checking (d : Device) (sig img : List ℕ) (found : Checked) (st : State) (at : ℕ) : Type 0 where
+  pub ahead : Ahead d false sig (length img) st at
   pub same : found ≡ firstImproper at (ahead .placed) img
 
-pub check-starts : (sig img : List ℕ) (st : State) → st ≡ O32 .start → Readable sig img → Checking sig img (improperIn (plan O32 false sig) img) st 0
-check-starts sig img st e f = rw (f .planned) (record { ahead = ahead-starts false sig (length img) (f .placed) (f .last) (f .planned) (f .whole) st e; same = refl })
+pub check-starts : (d : Device) (sig img : List ℕ) (st : State) → ((x : Device) → st ≡ O32 x .start) → Readable d sig img → Checking d sig img (improperIn (plan (O32 d) false sig) img) st 0
+check-starts d sig img st e f = rw (f .planned) (record { ahead = ahead-starts d false sig (length img) (f .placed) (f .last) (f .planned) (f .whole) st (e d); same = refl })
 
-pub check-ends : (sig img : List ℕ) (found : Checked) (st : State) (at : ℕ) → Checking sig img found st at → length sig ≤ at → K.Proper ≡ found
-check-ends sig img found st at w h =
-    let e : w .ahead .placed ≡ [] = ahead-ends false sig (length img) st at (w .ahead) h in
+pub check-ends : (d : Device) (sig img : List ℕ) (found : Checked) (st : State) (at : ℕ) → Checking d sig img found st at → length sig ≤ at → K.Proper ≡ found
+check-ends d sig img found st at w h =
+    let e : w .ahead .placed ≡ [] = ahead-ends d false sig (length img) st at (w .ahead) h in
     sym (rw e at (w .same))
 
-module _ (sig img : List ℕ) (found : Checked) (st : State) (at : ℕ) (w : Checking sig img found st at) (h : at < length sig)
-    (kd : Kind) (e : kd ≡ kindOf (getD sig at 0)) (p : Placement) (g : p ≡ placement st kd)
+module _ (d : Device) (sig img : List ℕ) (found : Checked) (st : State) (at : ℕ) (w : Checking d sig img found st at) (h : at < length sig)
+    (kd : Kind) (e : kd ≡ kindOf (getD sig at 0)) (p : Placement) (g : p ≡ placement d st kd)
     (u : Bool) (a : u ≡ proper (extension (p .kind)) (p .kind .size) (gather img (carriers p))) where
   -- what is found from here on, by this record's test
-  decided : (t : Bool) → u ≡ t → (L : List Placed) → w .ahead .placed ≡ O32 .placedAt (getD sig at 0) p ∷ L → found ≡ cond t (firstImproper (at + 1) L img) (K.Improper at)
+  decided : (t : Bool) → u ≡ t → (L : List Placed) → w .ahead .placed ≡ O32 d .placedAt (getD sig at 0) p ∷ L → found ≡ cond t (firstImproper (at + 1) L img) (K.Improper at)
   decided t b L c =
       w .same
       ∙ ap (λ (M : List Placed). firstImproper at M img) c
@@ -56,12 +57,12 @@ module _ (sig img : List ℕ) (found : Checked) (st : State) (at : ℕ) (w : Che
 
   pub check-stops : u ≡ false → K.Improper at ≡ found
   check-stops b =
-      let v : Behind false sig (length img) at (w .ahead .placed) p (onward st (p .kind)) (at + 1) = next-behind st at (w .ahead) h kd e p g (onward st (p .kind)) refl in
+      let v : Behind d false sig (length img) at (w .ahead .placed) p (onward st kd) (at + 1) = next-behind st at (w .ahead) h kd e p g (onward st kd) refl in
       sym (decided false b (v .rest .placed) (v .split))
 
-  pub check-turn : u ≡ true → (st′ : State) → st′ ≡ onward st (p .kind) → Checking sig img found st′ (at + 1)
+  pub check-turn : u ≡ true → (st′ : State) → st′ ≡ onward st kd → Checking d sig img found st′ (at + 1)
   check-turn b st′ o =
-      let v : Behind false sig (length img) at (w .ahead .placed) p st′ (at + 1) = next-behind st at (w .ahead) h kd e p g st′ o in
+      let v : Behind d false sig (length img) at (w .ahead .placed) p st′ (at + 1) = next-behind st at (w .ahead) h kd e p g st′ o in
       record { ahead = v .rest; same = decided true b (v .rest .placed) (v .split) }
 
 -- ---- the list
@@ -78,32 +79,32 @@ stored-record first out₀ out out′ b n k size l o lb r i =
     ∙ put-next (k ∷ b) first (drop n out₀) n l m
     ∙ ap (λ (x : List ℕ). (first ++ (k ∷ b)) ++ x) (drop-drop (suc (length b)) n out₀ ∙ ap (λ (x : ℕ). drop x out₀) d)
 
-pub record Copying (sig img out₀ final : List ℕ) (st : State) (at n : ℕ) (out : List ℕ) : Type 0 where
-  pub ahead : Ahead false sig (length img) st at
+pub record Copying (d : Device) (sig img out₀ final : List ℕ) (st : State) (at n : ℕ) (out : List ℕ) : Type 0 where
+  pub ahead : Ahead d false sig (length img) st at
   pub first : List ℕ
   pub long : length first ≡ n
   pub buffer : out ≡ first ++ drop n out₀
   pub whole : first ++ reading (ahead .placed) img ≡ final
 
-pub copy-starts : (sig img out : List ℕ) (st : State) → st ≡ O32 .start → Readable sig img → Copying sig img out (readingIn (plan O32 false sig) img) st 0 0 out
-copy-starts sig img out st e f = rw (f .planned) (record {
-  ahead = ahead-starts false sig (length img) (f .placed) (f .last) (f .planned) (f .whole) st e;
+pub copy-starts : (d : Device) (sig img out : List ℕ) (st : State) → ((x : Device) → st ≡ O32 x .start) → Readable d sig img → Copying d sig img out (readingIn (plan (O32 d) false sig) img) st 0 0 out
+copy-starts d sig img out st e f = rw (f .planned) (record {
+  ahead = ahead-starts d false sig (length img) (f .placed) (f .last) (f .planned) (f .whole) st (e d);
   first = [];
   long = refl;
   buffer = refl;
   whole = refl;
 })
 
-pub copy-ends : (sig img out₀ final : List ℕ) (st : State) (at n : ℕ) (out : List ℕ) → Copying sig img out₀ final st at n out → length sig ≤ at
+pub copy-ends : (d : Device) (sig img out₀ final : List ℕ) (st : State) (at n : ℕ) (out : List ℕ) → Copying d sig img out₀ final st at n out → length sig ≤ at
     → out ≡ final ++ drop (length final) out₀
-copy-ends sig img out₀ final st at n out w h =
-    let p : w .ahead .placed ≡ [] = ahead-ends false sig (length img) st at (w .ahead) h in
+copy-ends d sig img out₀ final st at n out w h =
+    let p : w .ahead .placed ≡ [] = ahead-ends d false sig (length img) st at (w .ahead) h in
     let f : w .first ≡ final = sym (append-nil (w .first)) ∙ ap (λ (L : List Placed). w .first ++ reading L img) (sym p) ∙ w .whole in
     w .buffer ∙ ap₂ (λ (x : List ℕ) (k : ℕ). x ++ drop k out₀) f (sym (w .long) ∙ ap length f)
 
-module _ (sig img out₀ final : List ℕ) (st : State) (at n : ℕ) (out : List ℕ) (w : Copying sig img out₀ final st at n out) (h : at < length sig)
+module _ (d : Device) (sig img out₀ final : List ℕ) (st : State) (at n : ℕ) (out : List ℕ) (w : Copying d sig img out₀ final st at n out) (h : at < length sig)
     (kd : Kind) (e : kd ≡ kindOf (getD sig at 0)) where
-  module _ (p : Placement) (g : p ≡ placement st kd) where
+  module _ (p : Placement) (g : p ≡ placement d st kd) where
     size-is : p .kind .size ≡ kd .size
     size-is = ap (λ (x : Placement). x .kind .size) g
 
@@ -111,27 +112,27 @@ module _ (sig img out₀ final : List ℕ) (st : State) (at n : ℕ) (out : List
     body-here = body (p .kind .size) (gather img (carriers p))
 
     body-long : length body-here ≡ p .kind .size
-    body-long = let s : Placed = O32 .placedAt (getD sig at 0) p in length-body s img (fits-carriers s (ahead-sized false sig (length img) st at (w .ahead) h kd e p g))
+    body-long = let s : Placed = O32 d .placedAt (getD sig at 0) p in length-body s img (fits-carriers s (ahead-sized d false sig (length img) st at (w .ahead) h kd e p g))
 
     -- the whole is what is there, this record, and the rest
-    split-here : (L : List Placed) → w .ahead .placed ≡ O32 .placedAt (getD sig at 0) p ∷ L → (w .first ++ (getD sig at 0 ∷ body-here)) ++ reading L img ≡ final
+    split-here : (L : List Placed) → w .ahead .placed ≡ O32 d .placedAt (getD sig at 0) p ∷ L → (w .first ++ (getD sig at 0 ∷ body-here)) ++ reading L img ≡ final
     split-here L b = append-assoc (w .first) (getD sig at 0 ∷ body-here) (reading L img) ∙ ap (λ (M : List Placed). w .first ++ reading M img) (sym b) ∙ w .whole
 
     module _ (room : length final ≤ length out₀) where
       pub copy-room : n + 1 + p .kind .size ≤ length out₀
       copy-room =
-          let v : Behind false sig (length img) at (w .ahead .placed) p (onward st (p .kind)) (at + 1) = next-behind st at (w .ahead) h kd e p g (onward st (p .kind)) refl in
+          let v : Behind d false sig (length img) at (w .ahead .placed) p (onward st kd) (at + 1) = next-behind st at (w .ahead) h kd e p g (onward st kd) refl in
           let l : length ((w .first ++ (getD sig at 0 ∷ body-here)) ++ reading (v .rest .placed) img) ≡ length final = ap length (split-here (v .rest .placed) (v .split)) in
           omega (arith, l, length-append (w .first ++ (getD sig at 0 ∷ body-here)) (reading (v .rest .placed) img), length-append (w .first) (getD sig at 0 ∷ body-here), w .long, body-long)
 
       pub copy-within : n + 1 + kd .size ≤ length out₀
       copy-within = omega (arith, copy-room, size-is)
 
-      pub copy-turn : (st′ : State) → st′ ≡ onward st (p .kind) → (out′ : List ℕ) → out′ ≡ put (set out n (getD sig at 0)) (run (n + 1) (p .kind .size)) (body (p .kind .size) (gather img (carriers p)))
-          → Copying sig img out₀ final st′ (at + 1) (n + 1 + kd .size) out′
+      pub copy-turn : (st′ : State) → st′ ≡ onward st kd → (out′ : List ℕ) → out′ ≡ put (set out n (getD sig at 0)) (run (n + 1) (p .kind .size)) (body (p .kind .size) (gather img (carriers p)))
+          → Copying d sig img out₀ final st′ (at + 1) (n + 1 + kd .size) out′
       copy-turn st′ o out′ i =
           let k : ℕ = getD sig at 0 in
-          let v : Behind false sig (length img) at (w .ahead .placed) p st′ (at + 1) = next-behind st at (w .ahead) h kd e p g st′ o in
+          let v : Behind d false sig (length img) at (w .ahead .placed) p st′ (at + 1) = next-behind st at (w .ahead) h kd e p g st′ o in
           let z : n + 1 + p .kind .size ≡ n + 1 + kd .size = ap (λ (x : ℕ). n + 1 + x) size-is in
           record {
             ahead = v .rest;

@@ -5,6 +5,7 @@ use mathlib.Core.Bool.{false, cond}
 use Prim.Native.Nat.{ℕ, suc, _+_}
 use lib.ListN.{length}
 use Rattle.words.specs.Words.{proper}
+use Rattle.device.specs.declared.Device.{Device}
 use Rattle.carried.specs.Image.{gather, Placed, reading}
 use Rattle.carried.specs.Convention.{Plan, bad, good, plan}
 use Rattle.o32.specs.declared.State.{State}
@@ -31,9 +32,9 @@ abbrev pub delivered : Checked → List ℕ → List ℕ → List ℕ
 delivered K.Proper list out = list
 delivered (K.Improper at) list out = out
 
--- An accepted signature whose images are as long as this one.
-pub record Readable (sig img : List ℕ) : Type 0 where
+-- An accepted signature whose images are as long as this one, on a device.
+pub record Readable (d : Device) (sig img : List ℕ) : Type 0 where
   pub placed : List Placed
   pub last : State
-  pub planned : plan O32 false sig ≡ good placed last
+  pub planned : plan (O32 d) false sig ≡ good placed last
   pub whole : length img ≡ 32 + area (last .end)

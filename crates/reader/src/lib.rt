@@ -7,6 +7,7 @@ ghost use mathlib.Core.Bool.{false};
 ghost use Rattle.carried.specs.Convention.{plan};
 ghost use Rattle.o32.specs.O32.{O32};
 ghost use Rattle.reader.specs.Reading.{Readable, delivered, improperIn, readingIn};
+use device::Device;
 
 // Whether all words are proper promotions, or the place of the first kind whose word is not.
 pub enum Checked {
@@ -15,56 +16,56 @@ pub enum Checked {
 }
 
 // Refusal 8: the first kind whose word in the image is no proper promotion.
-fn check(signature: &[u8], image: &[u8]) -> Checked
-    requires { ⌜ Readable (now signature) (now image) ⌝ }
-    ensures { λ r. ⌜ r ≡ improperIn (plan O32 false (now (signature .entry))) (now (image .entry)) ⌝ }
+fn check(device: Device, signature: &[u8], image: &[u8]) -> Checked
+    requires { ⌜ Readable device (now signature) (now image) ⌝ }
+    ensures { λ r. ⌜ r ≡ improperIn (plan (O32 device) false (now (signature .entry))) (now (image .entry)) ⌝ }
 {
     let mut st = records::start();
     let mut at = 0;
     while at < signature.len() {
         let kind = kinds::kind_of(signature[at]);
-        let placement = records::placement_of(st, kind);
-        if !fetch::is_proper(image, placement) {
+        let place = records::placement_of(device, st, kind);
+        if !fetch::is_proper(image, place) {
             return Checked::Improper(at);
         }
         at += 1;
-        st = records::state_behind(st, placement);
+        st = records::state_behind(st, kind, place.offset);
     }
     Checked::Proper
 }
 
 // The kinds and the bodies that the image carries for them, into a buffer that has room.
-fn copy_list(signature: &[u8], image: &[u8], out: &mut [u8])
-    requires { ⌜ Readable (now signature) (now image) ⌝ }
-    requires { ⌜ length (readingIn (plan O32 false (now signature)) (now image)) ≤ length (now out) ⌝ }
-    ensures { λ _. ⌜ now (out .exit) ≡ readingIn (plan O32 false (now (signature .entry))) (now (image .entry)) ++ drop (length (readingIn (plan O32 false (now (signature .entry))) (now (image .entry)))) (now (out .entry)) ⌝ }
+fn copy_list(device: Device, signature: &[u8], image: &[u8], out: &mut [u8])
+    requires { ⌜ Readable device (now signature) (now image) ⌝ }
+    requires { ⌜ length (readingIn (plan (O32 device) false (now signature)) (now image)) ≤ length (now out) ⌝ }
+    ensures { λ _. ⌜ now (out .exit) ≡ readingIn (plan (O32 device) false (now (signature .entry))) (now (image .entry)) ++ drop (length (readingIn (plan (O32 device) false (now (signature .entry))) (now (image .entry)))) (now (out .entry)) ⌝ }
 {
     let mut st = records::start();
     let mut at = 0;
     let mut n = 0;
     while at < signature.len() {
         let kind = kinds::kind_of(signature[at]);
-        let placement = records::placement_of(st, kind);
+        let placement = records::placement_of(device, st, kind);
         out[n] = signature[at];
         let body = n + 1;
         fetch::get_body(image, placement, out, body);
         n = body + kind.size;
         at += 1;
-        st = records::state_behind(st, placement);
+        st = records::state_behind(st, kind, placement.offset);
     }
 }
 
 // Refusal 8, or the list into a buffer that has room: no byte is stored before 8 is decided.
-pub fn deliver(signature: &[u8], image: &[u8], out: &mut [u8]) -> Checked
-    requires { ⌜ Readable (now signature) (now image) ⌝ }
-    requires { ⌜ length (readingIn (plan O32 false (now signature)) (now image)) ≤ length (now out) ⌝ }
-    ensures { λ r. ⌜ r ≡ improperIn (plan O32 false (now (signature .entry))) (now (image .entry)) ⌝ }
-    ensures { λ _. ⌜ now (out .exit) ≡ delivered (improperIn (plan O32 false (now (signature .entry))) (now (image .entry))) (readingIn (plan O32 false (now (signature .entry))) (now (image .entry)) ++ drop (length (readingIn (plan O32 false (now (signature .entry))) (now (image .entry)))) (now (out .entry))) (now (out .entry)) ⌝ }
+pub fn deliver(device: Device, signature: &[u8], image: &[u8], out: &mut [u8]) -> Checked
+    requires { ⌜ Readable device (now signature) (now image) ⌝ }
+    requires { ⌜ length (readingIn (plan (O32 device) false (now signature)) (now image)) ≤ length (now out) ⌝ }
+    ensures { λ r. ⌜ r ≡ improperIn (plan (O32 device) false (now (signature .entry))) (now (image .entry)) ⌝ }
+    ensures { λ _. ⌜ now (out .exit) ≡ delivered (improperIn (plan (O32 device) false (now (signature .entry))) (now (image .entry))) (readingIn (plan (O32 device) false (now (signature .entry))) (now (image .entry)) ++ drop (length (readingIn (plan (O32 device) false (now (signature .entry))) (now (image .entry)))) (now (out .entry))) (now (out .entry)) ⌝ }
 {
-    let checked = check(signature, image);
+    let checked = check(device, signature, image);
     let Checked::Proper = checked else {
         return checked;
     };
-    copy_list(signature, image, out);
+    copy_list(device, signature, image, out);
     checked
 }

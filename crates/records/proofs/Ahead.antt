@@ -8,6 +8,7 @@ use Prim.Native.Nat.{ℕ, _+_, _-_, _≤_, _<_}
 use native.Mathlib.Omega.{arith}
 use lib.ListN.{length, getD, drop}
 use Rattle.words.specs.Words.{promote}
+use Rattle.device.specs.declared.Device.{Device}
 use Rattle.carried.specs.Image.{Placed}
 use Rattle.carried.specs.Convention.{Step, refuse, next, Plan, bad, good, also, behind, taken, plan}
 use Rattle.carried.proofs.Walks.{StepLawful, Walked, walked, walk-grows}
@@ -23,26 +24,26 @@ use Rattle.placement.proofs.KindFacts.{kind-sound}
 use Rattle.placement.proofs.Laws.{O32-laws, up-ge}
 use Rattle.placement.proofs.Steps.{ends-within, word-aligned, register-floats}
 use Rattle.records.specs.Records.{Ready}
-use Rattle.records.proofs.Answers.{ready, placed-ready}
+use Rattle.records.proofs.Answers.{ready}
 use Rattle.records.proofs.Taken.{Placing, placing}
 use Rattle.placement.specs.Fitting.{Fit}
 
 -- the records from this place on, of a list or signature whose image has m bytes
-pub record Ahead (bodies : Bool) (list : List ℕ) (m : ℕ) (st : State) (at : ℕ) : Type 0 where
+pub record Ahead (d : Device) (bodies : Bool) (list : List ℕ) (m : ℕ) (st : State) (at : ℕ) : Type 0 where
   pub inside : at ≤ length list
   pub placed : List Placed
   pub last : State
-  pub ahead : onFrom O32 bodies list at st ≡ good placed last
+  pub ahead : onFrom (O32 d) bodies list at st ≡ good placed last
   pub whole : m ≡ 32 + area (last .end)
   pub fits : st .end ≤ 1024
 
-abbrev pub ahead-starts : (bodies : Bool) (list : List ℕ) (m : ℕ) (L : List Placed) (last : State) → plan O32 bodies list ≡ good L last → m ≡ 32 + area (last .end)
-    → (st : State) → st ≡ O32 .start → Ahead bodies list m st 0
-ahead-starts bodies list m L last e g st i = record { inside = omega arith; placed = L; last = last; ahead = rw i e; whole = g; fits = rw i (omega arith) }
+abbrev pub ahead-starts : (d : Device) (bodies : Bool) (list : List ℕ) (m : ℕ) (L : List Placed) (last : State) → plan (O32 d) bodies list ≡ good L last → m ≡ 32 + area (last .end)
+    → (st : State) → st ≡ O32 d .start → Ahead d bodies list m st 0
+ahead-starts d bodies list m L last e g st i = record { inside = omega arith; placed = L; last = last; ahead = rw i e; whole = g; fits = rw i (omega arith) }
 
-pub ahead-ends : (bodies : Bool) (list : List ℕ) (m : ℕ) (st : State) (at : ℕ) (w : Ahead bodies list m st at) → length list ≤ at → w .placed ≡ []
-ahead-ends bodies list m st at w h =
-    let e : good [] st ≡ good (w .placed) (w .last) = sym (finished O32 bodies list at st (w .inside) h) ∙ w .ahead in
+pub ahead-ends : (d : Device) (bodies : Bool) (list : List ℕ) (m : ℕ) (st : State) (at : ℕ) (w : Ahead d bodies list m st at) → length list ≤ at → w .placed ≡ []
+ahead-ends d bodies list m st at w h =
+    let e : good [] st ≡ good (w .placed) (w .last) = sym (finished (O32 d) bodies list at st (w .inside) h) ∙ w .ahead in
     cc
 
 -- a plan that begins with a record
@@ -57,8 +58,8 @@ also-good s (good M st) L last e =
     subst (Begun s (good M st) last) a (begun M (ap (good M) b))
 
 -- its bytes fit the image
-fits-image : {bodies : Bool} {left : ℕ} (st : State) (k m : ℕ) → Placing bodies left st k → 32 + area (onward st (kindOf k) .end) ≤ m → Fit (placement st (kindOf k)) m
-fits-image st k m w h =
+fits-image : {d : Device} {bodies : Bool} {left : ℕ} (st : State) (k m : ℕ) → Placing d bodies left st k → 32 + area (onward st (kindOf k) .end) ≤ m → Fit (placement d st (kindOf k)) m
+fits-image {d = d} st k m w h =
     let n : ℕ = onward st (kindOf k) .end in
     record {
       area = omega arith;
@@ -67,21 +68,21 @@ fits-image st k m w h =
       aligned = word-aligned k (st .end);
       promoted = kind-sound k .promoted;
       floating = λ r.
-          let f : (is Float (kindOf k) ≡ true) × ((register st (kindOf k) ≡ 12) ⊎ (register st (kindOf k) ≡ 14)) = register-floats st (kindOf k) r in
+          let f : (is Float (kindOf k) ≡ true) × ((register d st (kindOf k) ≡ 12) ⊎ (register d st (kindOf k) ≡ 14)) = register-floats d st (kindOf k) r in
           (f .0, record { named = f .1; sized = kind-sound k .floats (f .0) });
     }
 
 -- the records behind one that is placed so
-pub record Behind (bodies : Bool) (list : List ℕ) (m at : ℕ) (placed : List Placed) (p : Placement) (st′ : State) (at′ : ℕ) : Type 0 where
-  pub rest : Ahead bodies list m st′ at′
-  pub split : placed ≡ O32 .placedAt (getD list at 0) p ∷ rest .placed
+pub record Behind (d : Device) (bodies : Bool) (list : List ℕ) (m at : ℕ) (placed : List Placed) (p : Placement) (st′ : State) (at′ : ℕ) : Type 0 where
+  pub rest : Ahead d bodies list m st′ at′
+  pub split : placed ≡ O32 d .placedAt (getD list at 0) p ∷ rest .placed
 
-module _ (bodies : Bool) (list : List ℕ) (m : ℕ) (st : State) (at : ℕ) (w : Ahead bodies list m st at) (h : at < length list) where
+module _ (d : Device) (bodies : Bool) (list : List ℕ) (m : ℕ) (st : State) (at : ℕ) (w : Ahead d bodies list m st at) (h : at < length list) where
   abbrev k : ℕ
   k = getD list at 0
 
   abbrev p₀ : Placement
-  p₀ = placement st (kindOf k)
+  p₀ = placement d st (kindOf k)
 
   abbrev st₀ : State
   st₀ = onward st (kindOf k)
@@ -90,31 +91,31 @@ module _ (bodies : Bool) (list : List ℕ) (m : ℕ) (st : State) (at : ℕ) (w 
   at₀ = at + 1 + behind bodies (kindOf k .size)
 
   -- no record of what was accepted is refused
-  here : Placing bodies (length list - (at + 1)) st k
-  here = go (taken O32 bodies (length list - (at + 1)) st k) refl
+  here : Placing d bodies (length list - (at + 1)) st k
+  here = go (taken (O32 d) bodies (length list - (at + 1)) st k) refl
     where
-      go : (s : Step Placement State) → taken O32 bodies (length list - (at + 1)) st k ≡ s → Placing bodies (length list - (at + 1)) st k
+      go : (s : Step Placement State) → taken (O32 d) bodies (length list - (at + 1)) st k ≡ s → Placing d bodies (length list - (at + 1)) st k
       go (refuse r) e =
-          let z : bad r at ≡ good (w .placed) (w .last) = sym (stopped O32 bodies list at st h r e) ∙ w .ahead in
+          let z : bad r at ≡ good (w .placed) (w .last) = sym (stopped (O32 d) bodies list at st h r e) ∙ w .ahead in
           let y : _≡_ {A = ℕ} 0 1 = cc in
           absurd (omega arith)
-      go (next p st′) e = placing bodies st k (length list - (at + 1)) p st′ e
+      go (next p st′) e = placing d bodies st k (length list - (at + 1)) p st′ e
 
   inside-it : at₀ ≤ length list
-  inside-it = within O32 bodies list at st h p₀ st₀ (here .whole)
+  inside-it = within (O32 d) bodies list at st h p₀ st₀ (here .whole)
 
-  parts : Begun (O32 .placedAt k p₀) (onFrom O32 bodies list at₀ st₀) (w .last) (w .placed)
-  parts = also-good (O32 .placedAt k p₀) (onFrom O32 bodies list at₀ st₀) (w .placed) (w .last) (sym (passed O32 bodies list at st h p₀ st₀ (here .whole)) ∙ w .ahead)
+  parts : Begun (O32 d .placedAt k p₀) (onFrom (O32 d) bodies list at₀ st₀) (w .last) (w .placed)
+  parts = also-good (O32 d .placedAt k p₀) (onFrom (O32 d) bodies list at₀ st₀) (w .placed) (w .last) (sym (passed (O32 d) bodies list at st h p₀ st₀ (here .whole)) ∙ w .ahead)
 
-  grows : (L : List Placed) → Begun (O32 .placedAt k p₀) (onFrom O32 bodies list at₀ st₀) (w .last) L → 32 + area (st₀ .end) ≤ m
+  grows : (L : List Placed) → Begun (O32 d .placedAt k p₀) (onFrom (O32 d) bodies list at₀ st₀) (w .last) L → 32 + area (st₀ .end) ≤ m
   grows _ (begun M f) =
-      let v : Walked O32 O32-laws bodies 0 (drop at₀ list) st₀ M (w .last) = walked O32 O32-laws bodies (drop at₀ list) at₀ 0 st₀ M (w .last) f in
-      omega (arith, w .whole, walk-grows O32 O32-laws (v .walk))
+      let v : Walked (O32 d) (O32-laws d) bodies 0 (drop at₀ list) st₀ M (w .last) = walked (O32 d) (O32-laws d) bodies (drop at₀ list) at₀ 0 st₀ M (w .last) f in
+      omega (arith, w .whole, walk-grows (O32 d) (O32-laws d) (v .walk))
 
-  behind-it : Behind bodies list m at (w .placed) p₀ st₀ at₀
+  behind-it : Behind d bodies list m at (w .placed) p₀ st₀ at₀
   behind-it = go (w .placed) parts refl
     where
-      go : (L : List Placed) → Begun (O32 .placedAt k p₀) (onFrom O32 bodies list at₀ st₀) (w .last) L → w .placed ≡ L → Behind bodies list m at (w .placed) p₀ st₀ at₀
+      go : (L : List Placed) → Begun (O32 d .placedAt k p₀) (onFrom (O32 d) bodies list at₀ st₀) (w .last) L → w .placed ≡ L → Behind d bodies list m at (w .placed) p₀ st₀ at₀
       go _ (begun M f) q = record {
         rest = record { inside = inside-it; placed = M; last = w .last; ahead = f; whole = w .whole; fits = here .fits };
         split = q;
@@ -128,16 +129,16 @@ module _ (bodies : Bool) (list : List ℕ) (m : ℕ) (st : State) (at : ℕ) (w 
     pub ahead-within : at + 1 + behind bodies (kd .size) ≤ length list
     ahead-within = rw e inside-it
 
-    module _ (p : Placement) (g : p ≡ placement st kd) where
+    module _ (p : Placement) (g : p ≡ placement d st kd) where
       -- its promoted bytes are as many as its carriers
       pub ahead-sized : (b : List ℕ) → length b ≡ p .kind .size → length (promote (extension (p .kind)) b) ≡ length (carriers p)
-      ahead-sized = rw (g, e) (subst (StepLawful O32 (O32-laws .Free) st k) (here .step) (O32-laws .steps st k) .sized)
+      ahead-sized = rw (g, e) (subst (StepLawful (O32 d) (O32-laws d .Free) st k) (here .step) (O32-laws d .steps st k) .sized)
 
       pub ahead-fit : (room : ℕ) → m ≤ room → Fit p room
       ahead-fit room l = rw (g, e) (fits-image st k room here (omega (arith, grows (w .placed) parts)))
 
-      pub ahead-placed : Ready st (p .kind) × (p .offset ≡ offset (p .kind) (st .end))
-      ahead-placed = placed-ready st kd p g ahead-ready
+      pub ahead-placed : Ready st kd × (p .offset ≡ offset kd (st .end))
+      ahead-placed = (ahead-ready, rw g refl)
 
-      pub ahead-turn : (st′ : State) → st′ ≡ onward st (p .kind) → (at′ : ℕ) → at′ ≡ at + 1 + behind bodies (kd .size) → Behind bodies list m at (w .placed) p st′ at′
+      pub ahead-turn : (st′ : State) → st′ ≡ onward st kd → (at′ : ℕ) → at′ ≡ at + 1 + behind bodies (kd .size) → Behind d bodies list m at (w .placed) p st′ at′
       ahead-turn st′ o at′ i = rw (i, o, g, e) behind-it

@@ -8,17 +8,18 @@ use native.Mathlib.Omega.{arith}
 use native.Mathlib.Nat.{mul-zero}
 use lib.Dec.{eqb, leb, eqb·suc-zero, leb·suc-zero}
 use borrow.Author.Tests.{ne-eqb, le-leb, lt-leb, leb-false, lt-ltb, le-ltb}
+use Rattle.device.specs.declared.Device.{Device}
+use Rattle.device.specs.declared.Device.the-variants.{Fpu, NoFpu}
 use Rattle.carried.specs.Convention.{refuse, next, behind, limited, taken}
 use Rattle.o32.specs.declared.Class.the-variants.{Unknown, Marker, Pointer, Float}
 use Rattle.o32.specs.declared.Kind.{Kind}
 use Rattle.o32.specs.declared.State.{State}
-use Rattle.o32.specs.declared.Placement.{Placement}
 use Rattle.records.specs.declared.Record.{Record}
 use Rattle.records.specs.declared.Record.the-variants as R
 use Rattle.o32.specs.Kinds.{kindOf, is}
 use Rattle.words.specs.Words.{up}
 use Rattle.o32.specs.Offsets.{offset, width}
-use Rattle.o32.specs.O32.{O32, register, misplaced, full, onward, placement, stepped}
+use Rattle.o32.specs.O32.{O32, floatRegister, register, misplaced, full, onward, placement, stepped}
 use Rattle.records.specs.Records.{Alignment, recordOf, Ready}
 use Rattle.placement.proofs.KindFacts.{kind-sound}
 use Rattle.kinds.proofs.Classes.{class-is}
@@ -44,24 +45,32 @@ up-small a n (inr (inr e)) = omega (arith, up-le a n)
 
 -- ---- register, misplaced, full
 
+module _ (st : State) (d : Device) where
+  pub register-none : d ≡ NoFpu → 0 ≡ floatRegister d st
+  register-none e = rw e
+
+  module _ (e : d ≡ Fpu) where
+    pub register-first : st .count ≡ 0 → 12 ≡ floatRegister d st
+    register-first n = rw (e, n)
+
+    pub register-late : (st .count ≡ 0 → ⊥) → (st .count ≡ 1 → ⊥) → 0 ≡ floatRegister d st
+    register-late n m = rw (e, ne-eqb (st .count) 0 n, ne-eqb (st .count) 1 m)
+
+    pub register-behind : st .count ≡ 1 → st .floating ≡ false → 0 ≡ floatRegister d st
+    register-behind n f = rw (e, n, f)
+
+    pub register-marked : st .count ≡ 1 → st .floating ≡ true → st .marked ≡ true → 0 ≡ floatRegister d st
+    register-marked n f m = rw (e, n, f, m)
+
+    pub register-second : st .count ≡ 1 → st .floating ≡ true → st .marked ≡ false → 14 ≡ floatRegister d st
+    register-second n f m = rw (e, n, f, m)
+
 module _ (st : State) (k : Kind) where
-  pub register-plain : (t : Bool) → t ≡ is Float k → t ≡ false → 0 ≡ register st k
-  register-plain t e h = rw (sym e ∙ h)
+  pub register-float : (d : Device) (t : Bool) (f : ℕ) → t ≡ is Float k → t ≡ true → f ≡ floatRegister d st → f ≡ register d st k
+  register-float d t f e h g = g ∙ rw (sym e ∙ h)
 
-  pub register-first : (t : Bool) → t ≡ is Float k → t ≡ true → st .count ≡ 0 → 12 ≡ register st k
-  register-first t e h n = rw (sym e ∙ h, n)
-
-  pub register-late : (t : Bool) → t ≡ is Float k → t ≡ true → (st .count ≡ 0 → ⊥) → (st .count ≡ 1 → ⊥) → 0 ≡ register st k
-  register-late t e h n m = rw (sym e ∙ h, ne-eqb (st .count) 0 n, ne-eqb (st .count) 1 m)
-
-  pub register-behind : (t : Bool) → t ≡ is Float k → t ≡ true → st .count ≡ 1 → st .floating ≡ false → 0 ≡ register st k
-  register-behind t e h n f = rw (sym e ∙ h, n, f)
-
-  pub register-marked : (t : Bool) → t ≡ is Float k → t ≡ true → st .count ≡ 1 → st .floating ≡ true → st .marked ≡ true → 0 ≡ register st k
-  register-marked t e h n f m = rw (sym e ∙ h, n, f, m)
-
-  pub register-second : (t : Bool) → t ≡ is Float k → t ≡ true → st .count ≡ 1 → st .floating ≡ true → st .marked ≡ false → 14 ≡ register st k
-  register-second t e h n f m = rw (sym e ∙ h, n, f, m)
+  pub register-plain : (d : Device) (t : Bool) → t ≡ is Float k → t ≡ false → 0 ≡ register d st k
+  register-plain d t e h = rw (sym e ∙ h)
 
   pub pointer-first : (t : Bool) → t ≡ is Pointer k → t ≡ true → not (eqb (st .count) 0) ≡ misplaced st k
   pointer-first t e h = rw (class-is Pointer k t e h)
@@ -108,47 +117,40 @@ module _ (st : State) (k : Kind) where
 
 module _ (st : State) (k : ℕ) (bodies : Bool) (left : ℕ) (kd : Kind) (e : kd ≡ kindOf k) where
   abbrev Given : Record → Type 0
-  Given r = r ≡ recordOf (taken O32 bodies left st k)
+  Given r = (d : Device) → r ≡ recordOf (taken (O32 d) bodies left st k)
 
-  answer : (r : Record) → r ≡ recordOf (limited O32 bodies left k (stepped st kd)) → Given r
-  answer r h = h ∙ ap (λ (x : Kind). recordOf (limited O32 bodies left k (stepped st x))) e
+  answer : (r : Record) → ((d : Device) → r ≡ recordOf (limited (O32 d) bodies left k (stepped d st kd))) → Given r
+  answer r h d = h d ∙ ap (λ (x : Kind). recordOf (limited (O32 d) bodies left k (stepped d st x))) e
 
   module _ (u : Bool) (known : u ≡ is Unknown kd) where
     pub refused-1 : u ≡ true → Given (R.Refused 1)
-    refused-1 h = answer (R.Refused 1) (rw (sym known ∙ h))
+    refused-1 h = answer (R.Refused 1) (λ d. rw (sym known ∙ h))
 
     module _ (h₁ : u ≡ false) (m : Bool) (placed : m ≡ misplaced st kd) where
       pub refused-2 : m ≡ true → Given (R.Refused 2)
-      refused-2 h = answer (R.Refused 2) (rw (sym known ∙ h₁, sym placed ∙ h))
+      refused-2 h = answer (R.Refused 2) (λ d. rw (sym known ∙ h₁, sym placed ∙ h))
 
       module _ (h₂ : m ≡ false) (f : Bool) (roomy : f ≡ full st kd) where
         pub refused-3 : f ≡ true → Given (R.Refused 3)
-        refused-3 h = answer (R.Refused 3) (rw (sym known ∙ h₁, sym placed ∙ h₂, sym roomy ∙ h))
+        refused-3 h = answer (R.Refused 3) (λ d. rw (sym known ∙ h₁, sym placed ∙ h₂, sym roomy ∙ h))
 
         module _ (h₃ : f ≡ false) (b : ℕ) (needed : b ≡ behind bodies (kd .size)) where
           pub refused-4 : left < b → Given (R.Refused 4)
-          refused-4 h = answer (R.Refused 4) (rw (sym known ∙ h₁, sym placed ∙ h₂, sym roomy ∙ h₃, lt-ltb left (behind bodies (kd .size)) (rw needed at h)))
+          refused-4 h = answer (R.Refused 4) (λ d. rw (sym known ∙ h₁, sym placed ∙ h₂, sym roomy ∙ h₃, lt-ltb left (behind bodies (kd .size)) (rw needed at h)))
 
-          module _ (h₄ : b ≤ left) (p : Placement) (g : p ≡ placement st kd) (n : State) (on : n ≡ onward st (p .kind)) where
-            behind-it : n ≡ onward st kd
-            behind-it = on ∙ ap (λ (x : Placement). onward st (x .kind)) g
-
-            limit : (r : Record) → r ≡ recordOf (cond (leb (onward st kd .end) 1024) (next (placement st kd) (onward st kd)) (refuse 5)) → Given r
-            limit r h = answer r (h ∙ sym (rw (sym known ∙ h₁, sym placed ∙ h₂, sym roomy ∙ h₃, le-ltb left (behind bodies (kd .size)) (rw needed at h₄))))
+          module _ (h₄ : b ≤ left) (n : State) (on : n ≡ onward st kd) where
+            limit : (r : Record) → ((d : Device) → r ≡ recordOf (cond (leb (onward st kd .end) 1024) (next (placement d st kd) (onward st kd)) (refuse 5))) → Given r
+            limit r h = answer r (λ d. h d ∙ sym (rw (sym known ∙ h₁, sym placed ∙ h₂, sym roomy ∙ h₃, le-ltb left (behind bodies (kd .size)) (rw needed at h₄))))
 
             pub refused-5 : 1024 < n .end → Given (R.Refused 5)
-            refused-5 h = limit (R.Refused 5) (rw (lt-leb (onward st kd .end) 1024 (rw behind-it at h)))
+            refused-5 h = limit (R.Refused 5) (λ d. rw (lt-leb (onward st kd .end) 1024 (rw on at h)))
 
             pub accepted : n .end ≤ 1024 → Given (R.Taken kd n)
-            accepted h = limit _ (rw behind-it (rw (le-leb (onward st kd .end) 1024 (rw behind-it at h))))
+            accepted h = limit _ (λ d. rw on (rw (le-leb (onward st kd .end) 1024 (rw on at h))))
 
 -- a kind of the table can be placed behind arguments in their limits
 pub ready : (st : State) (k : ℕ) (kd : Kind) → kd ≡ kindOf k → full st kd ≡ false → st .end ≤ 1024 → Ready st kd
 ready st k kd e f h = record { aligned = rw e (kind-sound k .alignments); small = rw e (kind-sound k .small); fits = h; few = f }
-
--- with its placement, the state behind it can be told
-pub placed-ready : (st : State) (kd : Kind) (p : Placement) → p ≡ placement st kd → Ready st kd → Ready st (p .kind) × (p .offset ≡ offset (p .kind) (st .end))
-placed-ready st kd p g r = rw g (r, refl)
 
 -- the ends that are added up are small
 pub offset-small : (st : State) (k : Kind) (o : ℕ) → Ready st k → o ≡ offset k (st .end) → o ≤ 1031

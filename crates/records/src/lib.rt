@@ -3,13 +3,15 @@ ghost use mathlib.Core.Bool.{_||_, cond};
 ghost use mathlib.Core.Path.{_≡_};
 ghost use Prim.Native.Nat.{_≤_};
 ghost use lib.Dec.{eqb};
+ghost use Rattle.device.specs.declared.Device.{Device};
 ghost use Rattle.carried.specs.Convention.{behind, taken};
 ghost use Rattle.o32.specs.declared.Class.the-variants.{Float, Pointer};
 ghost use Rattle.o32.specs.Kinds.{is};
-ghost use Rattle.o32.specs.O32.{O32, full, misplaced, onward, placement, register};
+ghost use Rattle.o32.specs.O32.{O32, floatRegister, full, misplaced, onward, placement, register};
 ghost use Rattle.words.specs.Words.{up};
 ghost use Rattle.o32.specs.Offsets.{offset};
 ghost use Rattle.records.specs.Records.{Alignment, Ready, recordOf};
+use device::Device;
 use o32::Class;
 use o32::Kind;
 use o32::Placement;
@@ -34,13 +36,13 @@ fn align_up(alignment: usize, n: usize) -> usize
     }
 }
 
-// Rule 3: the floating register of an argument, or 0.
-fn register_of(st: State, kind: Kind) -> usize
-    ensures { λ r. ⌜ r ≡ register st kind ⌝ }
+// Rule 3: the floating register of a single or double, or 0.
+fn float_register(device: Device, st: State) -> usize
+    ensures { λ r. ⌜ r ≡ floatRegister device st ⌝ }
 {
-    if !kinds::is_class(Class::Float, kind) {
-        return 0;
-    }
+    let Device::Fpu = device else {
+        return 0; // there is no floating register
+    };
     if st.count == 0 {
         return 12;
     }
@@ -51,6 +53,16 @@ fn register_of(st: State, kind: Kind) -> usize
         return 0;
     }
     if st.marked { 0 } else { 14 }
+}
+
+// The floating register of an argument, or 0: no other argument has one.
+fn register_of(device: Device, st: State, kind: Kind) -> usize
+    ensures { λ r. ⌜ r ≡ register device st kind ⌝ }
+{
+    if kinds::is_class(Class::Float, kind) {
+        return float_register(device, st);
+    }
+    0
 }
 
 // Refusal 2: a second marker, or one with nothing or only a return pointer before it; a return pointer that is not first.
@@ -102,9 +114,9 @@ fn starts_floating(st: State, kind: Kind) -> bool
     st.floating
 }
 
-// The state before the first record.
+// The state before the first record. No state depends on the device.
 pub fn start() -> State
-    ensures { λ r. ⌜ r ≡ O32 .start ⌝ }
+    ensures { λ r. ⌜ ((d : Device) → r ≡ O32 d .start) ⌝ }
 {
     State {
         end: 0,
@@ -122,25 +134,32 @@ pub fn body_behind(bodies: bool, size: usize) -> usize
     if bodies { size } else { 0 }
 }
 
-// The placement of a record.
-pub fn placement_of(st: State, kind: Kind) -> Placement
+// Rule 2: the offset of a record.
+fn offset_of(st: State, kind: Kind) -> usize
     requires { ⌜ Ready st kind ⌝ }
-    ensures { λ r. ⌜ r ≡ placement st kind ⌝ }
+    ensures { λ r. ⌜ r ≡ offset kind (st .end) ⌝ }
+{
+    align_up(kind.alignment, st.end)
+}
+
+// The placement of a record on a device.
+pub fn placement_of(device: Device, st: State, kind: Kind) -> Placement
+    requires { ⌜ Ready st kind ⌝ }
+    ensures { λ r. ⌜ r ≡ placement device st kind ⌝ }
 {
     Placement {
         kind,
-        offset: align_up(kind.alignment, st.end),
-        register: register_of(st, kind),
+        offset: offset_of(st, kind),
+        register: register_of(device, st, kind),
     }
 }
 
-// The state behind a record with this placement.
-pub fn state_behind(st: State, placement: Placement) -> State
-    requires { ⌜ Ready st (placement .kind) ⌝ }
-    requires { ⌜ placement .offset ≡ offset (placement .kind) (st .end) ⌝ }
-    ensures { λ r. ⌜ r ≡ onward st (placement .kind) ⌝ }
+// The state behind a record at this offset.
+pub fn state_behind(st: State, kind: Kind, o: usize) -> State
+    requires { ⌜ Ready st kind ⌝ }
+    requires { ⌜ o ≡ offset kind (st .end) ⌝ }
+    ensures { λ r. ⌜ r ≡ onward st kind ⌝ }
 {
-    let kind = placement.kind;
     if kinds::is_class(Class::Marker, kind) {
         return State {
             end: st.end,
@@ -151,7 +170,7 @@ pub fn state_behind(st: State, placement: Placement) -> State
         };
     }
     State {
-        end: placement.offset + align_up(4, kinds::width_of(kind)),
+        end: o + align_up(4, kinds::width_of(kind)),
         count: st.count + 1,
         pointer: has_pointer(st, kind),
         floating: starts_floating(st, kind),
@@ -160,10 +179,10 @@ pub fn state_behind(st: State, placement: Placement) -> State
 }
 
 // One record of a list (bodies) or of a signature, with so many bytes left behind its kind byte: refusals 1 to 5 in their
-// order, or its kind and the state behind it.
+// order, or its kind and the state behind it, on every device.
 pub fn take(st: State, byte: u8, bodies: bool, left: usize) -> Record
     requires { ⌜ st .end ≤ 1024 ⌝ }
-    ensures { λ r. ⌜ r ≡ recordOf (taken O32 bodies left st byte) ⌝ }
+    ensures { λ r. ⌜ ((d : Device) → r ≡ recordOf (taken (O32 d) bodies left st byte)) ⌝ }
 {
     let kind = kinds::kind_of(byte);
     if kinds::is_class(Class::Unknown, kind) {
@@ -178,8 +197,7 @@ pub fn take(st: State, byte: u8, bodies: bool, left: usize) -> Record
     if left < body_behind(bodies, kind.size) {
         return Record::Refused(4);
     }
-    let placement = placement_of(st, kind);
-    let next = state_behind(st, placement);
+    let next = state_behind(st, kind, offset_of(st, kind));
     if 1024 < next.end {
         return Record::Refused(5);
     }

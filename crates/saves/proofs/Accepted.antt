@@ -1,4 +1,4 @@
--- What an accepted request is, and the bounds of its frame.
+-- What an accepted request is, on every device, and the bounds of its frame.
 -- Assumes nothing.
 use mathlib.Core.Path.{_≡_, refl, sym, ap, _∙_}
 use mathlib.Core.Bool.{Bool, true, false, cond, not, _&&_, _||_, true≢false}
@@ -8,25 +8,32 @@ use lib.Dec.{eqb, ltb}
 use lib.Bits.{bitAnd}
 use lib.Count.{ones, ones-le, ones-cat}
 use borrow.Author.Tests.{ltb-false, eqb-true, not-false}
+use Rattle.device.specs.declared.Device.{Device}
 use Rattle.saves.specs.Masks.{named, below}
-use Rattle.saves.specs.Frame.{savable, outside, unreturning, overfull, refusalOf, buildFor, buildOf, generalAt, localsAt, frameOf}
+use Rattle.saves.specs.Frame.{savable, outside, withoutUnit, unreturning, overfull, refusalOf, buildFor, buildOf, generalAt, localsAt, frameOf}
 use Rattle.saves.specs.declared.Request.{Request}
 use Rattle.saves.proofs.Masks.{ones-all, below-le, and-savable}
 
-pub record Accepted (r : Request) : Type 0 where
-  pub savable : r .general ≡ r .general / 2 ^ 30 % 2 ^ 2 * 2 ^ 30 + r .general / 2 ^ 16 % 2 ^ 8 * 2 ^ 16
+-- masks that refusal 9 lets pass
+pub record Savable (r : Request) : Type 0 where
+  pub general : r .general ≡ r .general / 2 ^ 30 % 2 ^ 2 * 2 ^ 30 + r .general / 2 ^ 16 % 2 ^ 8 * 2 ^ 16
   pub pairs : r .pairs ≤ 63
+
+pub record Accepted (r : Request) : Type 0 where
+  pub masks : Savable r
   pub return : r .leaf ≡ false → named (r .general) 31 ≡ true
   pub locals : r .locals ≤ 16384
   pub outgoing : r .outgoing ≤ 1024
   pub leaf : r .leaf ≡ true → r .outgoing ≡ 0
 
-four : (a b c d : Bool) → _≡_ {A = ℕ} (cond a 9 (cond b 10 (cond c 11 (cond d 12 0)))) 0 → (a ≡ false) × (b ≡ false) × (c ≡ false) × (d ≡ false)
-four true b c d e = absurd (omega arith)
-four false true c d e = absurd (omega arith)
-four false false true d e = absurd (omega arith)
-four false false false true e = absurd (omega arith)
-four false false false false e = (refl, refl, refl, refl)
+five : (a b c d e : Bool) → _≡_ {A = ℕ} (cond a 9 (cond b 14 (cond c 10 (cond d 11 (cond e 12 0))))) 0
+    → (a ≡ false) × (b ≡ false) × (c ≡ false) × (d ≡ false) × (e ≡ false)
+five true b c d e z = absurd (omega arith)
+five false true c d e z = absurd (omega arith)
+five false false true d e z = absurd (omega arith)
+five false false false true e z = absurd (omega arith)
+five false false false false true z = absurd (omega arith)
+five false false false false false z = (refl, refl, refl, refl, refl)
 
 or-false : (a b : Bool) → (a || b) ≡ false → (a ≡ false) × (b ≡ false)
 or-false true b e = absurd (true≢false e)
@@ -42,17 +49,28 @@ and-not false b e h = absurd (true≢false (sym h))
 and-not true true e h = refl
 and-not true false e h = absurd (true≢false e)
 
-pub accepted : (r : Request) → refusalOf r ≡ 0 → Accepted r
+pub savable-masks : (r : Request) → outside r ≡ false → Savable r
+savable-masks r e =
+    let o = or-false (not (eqb (bitAnd (r .general) savable) (r .general))) (ltb 63 (r .pairs)) e in
+    record { general = sym (eqb-true _ _ (not-false _ (o .0))) ∙ and-savable (r .general); pairs = ltb-false _ _ (o .1) }
+
+-- no refusal of a device holds
+passed : (d : Device) (r : Request) → refusalOf d r ≡ 0
+    → (outside r ≡ false) × (withoutUnit d r ≡ false) × (unreturning r ≡ false) × (ltb 16384 (r .locals) ≡ false) × (overfull r ≡ false)
 unfolding refusalOf
-accepted r e =
-    let f = four (outside r) (unreturning r) (ltb 16384 (r .locals)) (overfull r) e in
-    let o = or-false (not (eqb (bitAnd (r .general) savable) (r .general))) (ltb 63 (r .pairs)) (f .0) in
-    let q = or-false (ltb 1024 (r .outgoing)) (r .leaf && not (eqb (r .outgoing) 0)) (f .3) in
+passed d r e = five (outside r) (withoutUnit d r) (unreturning r) (ltb 16384 (r .locals)) (overfull r) e
+
+pub inside : (d : Device) (r : Request) → refusalOf d r ≡ 0 → outside r ≡ false
+inside d r e = passed d r e .0
+
+pub accepted : (d : Device) (r : Request) → refusalOf d r ≡ 0 → Accepted r
+accepted d r e =
+    let f = passed d r e in
+    let q = or-false (ltb 1024 (r .outgoing)) (r .leaf && not (eqb (r .outgoing) 0)) (f .4) in
     record {
-      savable = sym (eqb-true _ _ (not-false _ (o .0))) ∙ and-savable (r .general);
-      pairs = ltb-false _ _ (o .1);
-      return = not-and _ _ (f .1);
-      locals = ltb-false _ _ (f .2);
+      masks = savable-masks r (f .0);
+      return = not-and _ _ (f .2);
+      locals = ltb-false _ _ (f .3);
       outgoing = ltb-false _ _ (q .0);
       leaf = λ h. eqb-true _ _ (and-not _ _ (q .1) h);
     }
@@ -61,17 +79,17 @@ pub build-le : (leaf : Bool) (n : ℕ) → n ≤ 1024 → (buildFor leaf n ≤ 1
 build-le true n h = (omega arith, omega arith)
 build-le false n h = (omega arith, omega arith)
 
-module _ {r : Request} (a : Accepted r) where
+module _ {r : Request} (s : Savable r) where
   -- the counts that the code takes are those of the definitions
   pub ones-pairs : ones (r .pairs) ≡ below (r .pairs) 6
-  ones-pairs = ones-all (r .pairs) 6 (omega (arith, a .pairs))
+  ones-pairs = ones-all (r .pairs) 6 (omega (arith, s .pairs))
 
   pub ones-general : ones (r .general) ≡ below (r .general) 32
-  ones-general = ones-all (r .general) 32 (omega (arith, a .savable))
+  ones-general = ones-all (r .general) 32 (omega (arith, s .general))
 
   -- no general register below `$16`
   pub low-general : r .general % 65536 ≡ 0
-  low-general = omega (arith, a .savable)
+  low-general = omega (arith, s .general)
 
   -- ten general registers at most
   pub few-general : below (r .general) 32 ≤ 10
@@ -82,7 +100,7 @@ module _ {r : Request} (a : Accepted r) where
       omega (
         arith,
         ones-general,
-        ap ones (a .savable),
+        ap ones (s .general),
         ones-cat 30 (m / 2 ^ 30 % 2 ^ 2) (low * 2 ^ 16) (omega arith),
         ap ones f,
         ones-cat 16 low 0 (omega arith),
@@ -91,9 +109,10 @@ module _ {r : Request} (a : Accepted r) where
         ones-le 8 low (omega arith),
       )
 
+module _ {r : Request} (a : Accepted r) where
   pub frame-le : frameOf r ≤ 17496
   unfolding frameOf localsAt generalAt
-  frame-le = omega (arith, build-le (r .leaf) (r .outgoing) (a .outgoing) .0, below-le (r .pairs) 6, few-general, a .locals)
+  frame-le = omega (arith, build-le (r .leaf) (r .outgoing) (a .outgoing) .0, below-le (r .pairs) 6, few-general (a .masks), a .locals)
 
   pub build-small : buildOf r ≤ 1024
   build-small = build-le (r .leaf) (r .outgoing) (a .outgoing) .0
@@ -103,5 +122,5 @@ module _ {r : Request} (a : Accepted r) where
   general-small = omega (arith, build-small, below-le (r .pairs) 6)
 
 -- "The frame F is .. at most 17,496."
-pub frame-limit : (r : Request) → refusalOf r ≡ 0 → frameOf r ≤ 17496
-frame-limit r e = frame-le (accepted r e)
+pub frame-limit : (d : Device) (r : Request) → refusalOf d r ≡ 0 → frameOf r ≤ 17496
+frame-limit d r e = frame-le (accepted d r e)

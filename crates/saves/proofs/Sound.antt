@@ -33,7 +33,7 @@ pub sound : {r : Request} → Accepted r → Sound (frameOf r) (savesOf r)
 unfolding savesOf frameOf localsAt generalAt
 sound {r} a =
     let b = build-le (r .leaf) (r .outgoing) (a .outgoing) in
-    let z = bits-off (r .general) _ _ (omega arith) (a .savable) in
+    let z = bits-off (r .general) _ _ (omega arith) (a .masks .general) in
     let pairs : ℕ → List Save = pairAt (buildOf r) (r .pairs) in
     let registers : ℕ → List Save = registerAt (generalAt r) (r .general) in
     let ps : List Save = collect pairs (r .pairs) 6 in

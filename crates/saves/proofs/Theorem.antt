@@ -1,4 +1,4 @@
--- The bytes of an accepted request's prologue and epilogue keep what is demanded of them.
+-- The bytes of a request's prologue and epilogue keep what is demanded of them, where any device accepts it.
 -- Assumes nothing.
 use mathlib.Core.Path.{_≡_, refl, sym, ap, _∙_, subst}
 use mathlib.Core.Bool.{Bool, true, false}
@@ -7,6 +7,7 @@ use mathlib.Core.List.{List}
 use Prim.Native.Nat.{ℕ, _+_, _<_}
 use native.Mathlib.Omega.{arith}
 use lib.ListN.{length}
+use Rattle.device.specs.declared.Device.{Device}
 use Rattle.machine.specs.Machine.{State, run, Holds, Runs}
 use Rattle.saves.specs.Masks.{named}
 use Rattle.saves.specs.Frame.{refusalOf, floatingAt, generalAt, frameOf}
@@ -80,12 +81,12 @@ in-bytes code ws s e c runs h =
     let r = runs (subst (Holds code (s .pc)) e (c .words)) in
     record { last = r .last; ran = ap (λ (l : List ℕ). run (length l) code s) e ∙ r .ran; holds = h (r .last) (r .holds) }
 
-pub frames : (r : Request) → refusalOf r ≡ 0 → Keeps r (bytesOfWords (prologueWords r)) (bytesOfWords (epilogueWords r))
+pub frames : (x : Device) (r : Request) → refusalOf x r ≡ 0 → Keeps r (bytesOfWords (prologueWords r)) (bytesOfWords (epilogueWords r))
 unfolding prologueWords epilogueWords
-frames r ok code s e c =
+frames x r ok code s e c =
     let F : ℕ = frameOf r in
     let vs : List Save = savesOf r in
-    let d : Sound F vs = sound (accepted r ok) in
+    let d : Sound F vs = sound (accepted x r ok) in
     in-bytes code (prologueFor F vs) s (words-in (prologueFor F vs) (prologue-small F vs d)) c (prologue code F vs s d e (c .whole) (c .slot))
     (λ t p. (
       prologued r _ s t (subst (λ (n : ℕ). Entered F vs n s t) (sym (ap length (words-in (prologueFor F vs) (prologue-small F vs d)))) p),

@@ -1,10 +1,12 @@
--- The frame of a request: what is refused, and where everything lies ("Frames").
+-- The frame of a request on a device: what is refused, and where everything lies ("Frames"). Only refusal 14 looks at the device.
 use mathlib.Core.List.{[], _∷_}
-use mathlib.Core.Bool.{Bool, cond, not, _&&_, _||_}
+use mathlib.Core.Bool.{Bool, false, cond, not, _&&_, _||_}
 use Prim.Native.Nat.{ℕ, _+_, _*_, max}
 use lib.Bits.{bitAnd}
 use lib.Dec.{eqb, ltb}
 use Rattle.words.specs.Words.{up}
+use Rattle.device.specs.declared.Device.{Device}
+use Rattle.device.specs.declared.Device.the-variants.{Fpu, NoFpu}
 use Rattle.saves.specs.declared.Request.{Request}
 use Rattle.saves.specs.declared.Layout.{Layout}
 use Rattle.saves.specs.Masks.{named, below, maskOf}
@@ -17,6 +19,11 @@ savable = maskOf (16 ∷ 17 ∷ 18 ∷ 19 ∷ 20 ∷ 21 ∷ 22 ∷ 23 ∷ 30 ∷
 abbrev pub outside : Request → Bool
 outside r = not (eqb (bitAnd (r .general) savable) (r .general)) || ltb 63 (r .pairs)
 
+-- Request (ii) of document 02. "14, pair mask not 0 on this device, directly after 9": on the one without a floating-point unit.
+abbrev pub withoutUnit : Device → Request → Bool
+withoutUnit Fpu r = false
+withoutUnit NoFpu r = not (eqb (r .pairs) 0)
+
 -- "10: not a leaf and `$31` not named".
 abbrev pub unreturning : Request → Bool
 unreturning r = not (r .leaf) && not (named (r .general) 31)
@@ -26,12 +33,13 @@ abbrev pub overfull : Request → Bool
 overfull r = ltb 1024 (r .outgoing) || (r .leaf && not (eqb (r .outgoing) 0))
 
 -- "Checks in this order": the refusal's number, 0 for none. Between them "11: L above 16,384".
-unfoldable pub refusalOf : Request → ℕ
-refusalOf r =
+unfoldable pub refusalOf : Device → Request → ℕ
+refusalOf d r =
     cond (outside r) 9
+    (cond (withoutUnit d r) 14
     (cond (unreturning r) 10
     (cond (ltb 16384 (r .locals)) 11
-    (cond (overfull r) 12 0)))
+    (cond (overfull r) 12 0))))
 
 -- "B is outgoing rounded up to 8, at least 16 in a non-leaf, 0 in a leaf."
 abbrev pub buildFor : Bool → ℕ → ℕ
@@ -59,7 +67,7 @@ frameOf r = up 8 (localsAt r + r .locals)
 
 -- "The layout answers F, B and the offsets of the floating save area, the general save area and the locals"; on a refusal
 -- "Place is 0, .. and the layout's numbers are all 0."
-unfoldable pub layoutOf : Request → Layout
-layoutOf r = cond (eqb (refusalOf r) 0)
+unfoldable pub layoutOf : Device → Request → Layout
+layoutOf d r = cond (eqb (refusalOf d r) 0)
     (record { refusal = 0; place = 0; frame = frameOf r; build = buildOf r; floating = floatingAt r; general = generalAt r; locals = localsAt r })
-    (record { refusal = refusalOf r; place = 0; frame = 0; build = 0; floating = 0; general = 0; locals = 0 })
+    (record { refusal = refusalOf d r; place = 0; frame = 0; build = 0; floating = 0; general = 0; locals = 0 })

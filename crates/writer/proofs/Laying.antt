@@ -6,6 +6,7 @@ use mathlib.Core.Bool.{true}
 use Prim.Native.Nat.{ℕ, _+_, _-_, _≤_}
 use native.Mathlib.Omega.{arith}
 use lib.ListN.{drop, replicate, length-replicate, replicate-append-replicate}
+use Rattle.device.specs.declared.Device.{Device}
 use Rattle.carried.specs.Image.{put, Placed, carried, promotedBytes}
 use Rattle.carried.specs.Convention.{plan}
 use Rattle.carried.specs.Demand.{OneEach}
@@ -16,7 +17,7 @@ use Rattle.placement.proofs.Laws.{O32-laws}
 use Rattle.block.specs.Block.{blockBytes}
 use Rattle.writer.specs.Filling.{Fillable, filled, imageIn}
 
-module _ (list out : List ℕ) (n : ℕ) (f : Fillable list n) where
+module _ (d : Device) (list out : List ℕ) (n : ℕ) (f : Fillable d list n) where
   area-there : 32 ≤ n
   area-there = omega (arith, f .whole)
 
@@ -29,11 +30,11 @@ module _ (list out : List ℕ) (n : ℕ) (f : Fillable list n) where
       ∙ ap (λ (x : List ℕ). x ++ drop n out) (replicate-append-replicate 32 (n - 32) z ∙ ap (λ (m : ℕ). replicate m z) k)
 
   inside : OneEach n (f .placed)
-  inside = rw (f .whole) (walk-one-each O32 O32-laws (walked O32 O32-laws true list 0 0 (O32 .start) (f .placed) (f .last) (f .planned) .walk))
+  inside = rw (f .whole) (walk-one-each (O32 d) (O32-laws d) (walked (O32 d) (O32-laws d) true list 0 0 (O32 d .start) (f .placed) (f .last) (f .planned) .walk))
 
   -- rest: the buffer behind its first 32 bytes, after the area was cleared; img: the image with all arguments stored
-  pub laid : (rest img o : List ℕ) → rest ≡ replicate (n - 32) 0 ++ drop n out → img ≡ filled (plan O32 true list) list (blockBytes (replicate 8 0) ++ rest) → o ≡ img
-      → o ≡ imageIn (plan O32 true list) list n ++ drop n out
+  pub laid : (rest img o : List ℕ) → rest ≡ replicate (n - 32) 0 ++ drop n out → img ≡ filled (plan (O32 d) true list) list (blockBytes (replicate 8 0) ++ rest) → o ≡ img
+      → o ≡ imageIn (plan (O32 d) true list) list n ++ drop n out
   laid rest img o e₁ e₂ e₃ =
       let L : List Placed = f .placed in
       e₃ ∙ e₂ ∙ rw (f .planned) (ap (λ (x : List ℕ). put x (carried L) (promotedBytes L list)) (zeros rest e₁)

@@ -3,16 +3,17 @@ use mathlib.Core.Path.{_≡_}
 use mathlib.Core.List.{List, []}
 use mathlib.Core.Bool.{true}
 use Prim.Native.Nat.{ℕ, _+_}
+use Rattle.device.specs.declared.Device.{Device}
 use Rattle.carried.specs.Image.{put, Placed, carried, promotedBytes, image}
 use Rattle.carried.specs.Convention.{Plan, bad, good, plan}
 use Rattle.o32.specs.declared.State.{State}
 use Rattle.o32.specs.O32.{O32, area}
 
--- An accepted list whose image has n bytes.
-pub record Fillable (list : List ℕ) (n : ℕ) : Type 0 where
+-- An accepted list whose image has n bytes, on a device.
+pub record Fillable (d : Device) (list : List ℕ) (n : ℕ) : Type 0 where
   pub placed : List Placed
   pub last : State
-  pub planned : plan O32 true list ≡ good placed last
+  pub planned : plan (O32 d) true list ≡ good placed last
   pub whole : n ≡ 32 + area (last .end)
 
 -- An image with the bytes of a list's arguments stored at their places.

@@ -8,6 +8,7 @@ ghost use Rattle.carried.specs.Convention.{plan};
 ghost use Rattle.o32.specs.O32.{O32};
 ghost use Rattle.block.specs.Block.{whole};
 ghost use Rattle.writer.specs.Filling.{Fillable, filled, imageIn};
+use device::Device;
 
 // Zero in the area of an image of n bytes.
 fn clear(out: &mut [u8], n: usize)
@@ -22,33 +23,33 @@ fn clear(out: &mut [u8], n: usize)
 }
 
 // The arguments of a list that was accepted, each at its place: in the register block that is answered, and in the area.
-fn fill(list: &[u8], out: &mut [u8], n: usize) -> [u32; 8]
-    requires { ⌜ Fillable (now list) n ⌝ }
+fn fill(device: Device, list: &[u8], out: &mut [u8], n: usize) -> [u32; 8]
+    requires { ⌜ Fillable device (now list) n ⌝ }
     requires { ⌜ n ≤ length (now out) ⌝ }
-    ensures { λ r. ⌜ whole r (now (out .exit)) ≡ filled (plan O32 true (now (list .entry))) (now (list .entry)) (whole (replicate 8 0) (now (out .entry))) ⌝ }
+    ensures { λ r. ⌜ whole r (now (out .exit)) ≡ filled (plan (O32 device) true (now (list .entry))) (now (list .entry)) (whole (replicate 8 0) (now (out .entry))) ⌝ }
 {
     let mut block = [0u32; 8];
     let mut st = records::start();
     let mut at = 0;
     while at < list.len() {
         let kind = kinds::kind_of(list[at]);
-        let placement = records::placement_of(st, kind);
+        let placement = records::placement_of(device, st, kind);
         let body = at + 1;
         let changed = block::put_argument(block, out, placement, list, body);
         block = changed;
         at = body + kind.size;
-        st = records::state_behind(st, placement);
+        st = records::state_behind(st, kind, placement.offset);
     }
     block
 }
 
 // The image of a list, n bytes long, into a buffer that has room.
-pub fn lay(list: &[u8], out: &mut [u8], n: usize)
-    requires { ⌜ Fillable (now list) n ⌝ }
+pub fn lay(device: Device, list: &[u8], out: &mut [u8], n: usize)
+    requires { ⌜ Fillable device (now list) n ⌝ }
     requires { ⌜ n ≤ length (now out) ⌝ }
-    ensures { λ _. ⌜ now (out .exit) ≡ imageIn (plan O32 true (now (list .entry))) (now (list .entry)) n ++ drop n (now (out .entry)) ⌝ }
+    ensures { λ _. ⌜ now (out .exit) ≡ imageIn (plan (O32 device) true (now (list .entry))) (now (list .entry)) n ++ drop n (now (out .entry)) ⌝ }
 {
     clear(out, n);
-    let block = fill(list, out, n);
+    let block = fill(device, list, out, n);
     block::write_block(block, out);
 }

@@ -1,4 +1,4 @@
-//! What is timed.
+//! What is timed: all calls are for the device with a floating-point unit.
 
 use std::hint::black_box;
 
@@ -56,12 +56,15 @@ impl Case {
     pub fn run_o32(&self, buffer: &mut [u8]) -> u32 {
         let buffer = black_box(buffer);
         match &self.call {
-            Call::Write { list } => o32::write(black_box(list), buffer),
-            Call::Read { signature, image } => {
-                o32::read(black_box(signature), black_box(image), buffer)
-            }
-            Call::Prologue(request) => o32::prologue(black_box(*request), buffer),
-            Call::Epilogue(request) => o32::epilogue(black_box(*request), buffer),
+            Call::Write { list } => o32::write(o32::Device::Fpu, black_box(list), buffer),
+            Call::Read { signature, image } => o32::read(
+                o32::Device::Fpu,
+                black_box(signature),
+                black_box(image),
+                buffer,
+            ),
+            Call::Prologue(request) => o32::prologue(o32::Device::Fpu, black_box(*request), buffer),
+            Call::Epilogue(request) => o32::epilogue(o32::Device::Fpu, black_box(*request), buffer),
         }
         .length
     }
@@ -70,12 +73,23 @@ impl Case {
     pub fn run_model(&self, buffer: &mut [u8]) -> u32 {
         let buffer = black_box(buffer);
         match &self.call {
-            Call::Write { list } => model::write(black_box(list), buffer),
-            Call::Read { signature, image } => {
-                model::read(black_box(signature), black_box(image), buffer)
-            }
-            Call::Prologue(request) => model::prologue(model_request(black_box(request)), buffer),
-            Call::Epilogue(request) => model::epilogue(model_request(black_box(request)), buffer),
+            Call::Write { list } => model::write(model::Device::Fpu, black_box(list), buffer),
+            Call::Read { signature, image } => model::read(
+                model::Device::Fpu,
+                black_box(signature),
+                black_box(image),
+                buffer,
+            ),
+            Call::Prologue(request) => model::prologue(
+                model::Device::Fpu,
+                model_request(black_box(request)),
+                buffer,
+            ),
+            Call::Epilogue(request) => model::epilogue(
+                model::Device::Fpu,
+                model_request(black_box(request)),
+                buffer,
+            ),
         }
         .length
     }
@@ -144,7 +158,7 @@ const FULL_FRAME: o32::Request = o32::Request {
 /// The image of a list that is accepted.
 fn image_of(list: &[u8]) -> Vec<u8> {
     let mut image = vec![0; ROOM];
-    let length = model::write(list, &mut image).length;
+    let length = model::write(model::Device::Fpu, list, &mut image).length;
     image.truncate(length as usize);
     image
 }

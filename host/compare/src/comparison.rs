@@ -1,8 +1,10 @@
 //! One comparison of the library with the model, and the count of all.
 
 use std::hint::black_box;
+use std::ops::RangeInclusive;
 
 use model::{Answer, Layout};
+use o32::Device;
 
 use crate::guarded::{Guarded, Noise};
 use crate::rng::Rng;
@@ -13,8 +15,11 @@ const REPORTS_OF_A_GROUP: usize = 2;
 /// Failing inputs that are shown in all.
 const REPORTS: usize = 10;
 
-/// Success and the refusals 1 to 13.
-const ANSWERS: usize = 14;
+/// Success and the refusals 1 to 14.
+const ANSWERS: usize = 15;
+
+/// With a floating-point unit and without one.
+pub const DEVICES: [Device; 2] = [Device::Fpu, Device::NoFpu];
 
 /// Which code of a frame is written.
 #[derive(Clone, Copy, Debug, PartialEq, Eq)]
@@ -31,11 +36,13 @@ impl Code {
 pub struct Comparison {
     noise: Noise,
     group: &'static str,
+    /// What the group's comparisons are for.
+    device: Device,
     failed_in_group: usize,
     passed: u64,
     failed: u64,
-    /// How often the model gave each refusal, success being 0.
-    seen: [u64; ANSWERS],
+    /// How often the model gave each refusal on each device, success being 0.
+    seen: [[u64; ANSWERS]; DEVICES.len()],
     reports: Vec<String>,
 }
 
@@ -44,17 +51,25 @@ impl Comparison {
         Comparison {
             noise: Noise::new(Rng::for_part(seed, "noise")),
             group: "",
+            device: Device::Fpu,
             failed_in_group: 0,
             passed: 0,
             failed: 0,
-            seen: [0; ANSWERS],
+            seen: [[0; ANSWERS]; DEVICES.len()],
             reports: Vec::new(),
         }
     }
 
-    pub fn start_group(&mut self, name: &'static str) {
+    /// Starts a group of comparisons for one device.
+    pub fn start_group(&mut self, name: &'static str, device: Device) {
         self.group = name;
+        self.device = device;
         self.failed_in_group = 0;
+    }
+
+    /// The device of the group.
+    pub fn device(&self) -> Device {
+        self.device
     }
 
     pub fn passed(&self) -> u64 {
@@ -73,21 +88,26 @@ impl Comparison {
         &self.reports
     }
 
-    /// Fails for every answer that no input has led to.
+    /// Fails for every answer of a device that no input has led to.
     pub fn check_coverage(&mut self) {
-        self.start_group("coverage");
-        for refusal in 0..ANSWERS {
-            if self.seen[refusal] == 0 {
-                self.fail(|| format!("no input is answered with refusal {refusal}"));
+        for device in DEVICES {
+            self.start_group("coverage", device);
+            for refusal in answers_on(device) {
+                if self.seen[device as usize][refusal] == 0 {
+                    self.fail(|| format!("no input is answered with refusal {refusal}"));
+                }
             }
         }
     }
 
-    /// How often each answer was expected.
-    pub fn answers_text(&self) -> String {
-        let refused = (1..ANSWERS).map(|number| format!("{} refused {number}", self.seen[number]));
-        std::iter::once(format!("{} accepted", self.seen[0]))
-            .chain(refused)
+    /// How often each answer was expected on a device.
+    pub fn answers_text(&self, device: Device) -> String {
+        let seen = self.seen[device as usize];
+        answers_on(device)
+            .map(|number| match number {
+                0 => format!("{} accepted", seen[0]),
+                _ => format!("{} refused {number}", seen[number]),
+            })
             .collect::<Vec<_>>()
             .join(", ")
     }
@@ -99,10 +119,10 @@ impl Comparison {
         let mut output = self.noise.buffer(room);
         let mut expected_output = output.clone();
 
-        let answer = answer_of(o32::write(input.bytes(), output.bytes_mut()));
+        let answer = answer_of(o32::write(self.device, input.bytes(), output.bytes_mut()));
         // The compiler must not take it for granted that inputs stay.
         black_box(&mut input);
-        let expected = model::write(list, expected_output.bytes_mut());
+        let expected = model::write(model_device(self.device), list, expected_output.bytes_mut());
 
         let agrees = answer == expected && output == expected_output && input == input_before;
         self.count(expected.refusal, agrees, || {
@@ -127,9 +147,19 @@ impl Comparison {
         let mut output = self.noise.buffer(room);
         let mut expected_output = output.clone();
 
-        let answer = answer_of(o32::read(kinds.bytes(), input.bytes(), output.bytes_mut()));
+        let answer = answer_of(o32::read(
+            self.device,
+            kinds.bytes(),
+            input.bytes(),
+            output.bytes_mut(),
+        ));
         black_box((&mut kinds, &mut input));
-        let expected = model::read(signature, image, expected_output.bytes_mut());
+        let expected = model::read(
+            model_device(self.device),
+            signature,
+            image,
+            expected_output.bytes_mut(),
+        );
 
         let agrees = answer == expected
             && output == expected_output
@@ -155,11 +185,16 @@ impl Comparison {
         let input = self.noise.around(list);
         let kinds = self.noise.around(signature);
         let mut image = self.noise.buffer(carried.len());
-        let written = answer_of(o32::write(input.bytes(), image.bytes_mut()));
+        let written = answer_of(o32::write(self.device, input.bytes(), image.bytes_mut()));
         let noise = self.noise.buffer(carried.len());
         overwrite_holes(image.bytes_mut(), noise.bytes(), carried);
         let mut reading = self.noise.buffer(list.len());
-        let read = answer_of(o32::read(kinds.bytes(), image.bytes(), reading.bytes_mut()));
+        let read = answer_of(o32::read(
+            self.device,
+            kinds.bytes(),
+            image.bytes(),
+            reading.bytes_mut(),
+        ));
 
         let agrees = written == success(carried.len())
             && read == success(list.len())
@@ -178,8 +213,8 @@ impl Comparison {
 
     /// Compares the layouts of a frame.
     pub fn frame(&mut self, request: o32::Request) {
-        let layout = layout_of(o32::frame(request));
-        let expected = model::frame(model_request(request));
+        let layout = layout_of(o32::frame(self.device, request));
+        let expected = model::frame(model_device(self.device), model_request(request));
         self.count(expected.refusal, layout == expected, || {
             format!("{request:X?}\n  expected {expected:?}\n  answered {layout:?}")
         });
@@ -190,10 +225,10 @@ impl Comparison {
         let mut output = self.noise.buffer(room);
         let mut expected_output = output.clone();
         let answer = answer_of(match code {
-            Code::Prologue => o32::prologue(request, output.bytes_mut()),
-            Code::Epilogue => o32::epilogue(request, output.bytes_mut()),
+            Code::Prologue => o32::prologue(self.device, request, output.bytes_mut()),
+            Code::Epilogue => o32::epilogue(self.device, request, output.bytes_mut()),
         });
-        let expected = model_code(code, request, expected_output.bytes_mut());
+        let expected = model_code(code, self.device, request, expected_output.bytes_mut());
 
         let agrees = answer == expected && output == expected_output;
         self.count(expected.refusal, agrees, || {
@@ -209,7 +244,7 @@ impl Comparison {
 
     /// Counts a comparison by the refusal that was expected.
     fn count(&mut self, expected: u32, agrees: bool, report: impl FnOnce() -> String) {
-        self.seen[expected as usize] += 1;
+        self.seen[self.device as usize][expected as usize] += 1;
         if agrees {
             self.passed += 1;
         } else {
@@ -221,17 +256,36 @@ impl Comparison {
         self.failed += 1;
         self.failed_in_group += 1;
         if self.failed_in_group <= REPORTS_OF_A_GROUP && self.reports.len() < REPORTS {
-            self.reports.push(format!("{}\n  {}", self.group, report()));
+            let heading = format!("{}, {:?}", self.group, self.device);
+            self.reports.push(format!("{heading}\n  {}", report()));
         }
     }
 }
 
 /// The model's code for a request to the library.
-pub fn model_code(code: Code, request: o32::Request, buffer: &mut [u8]) -> Answer {
+pub fn model_code(code: Code, device: Device, request: o32::Request, buffer: &mut [u8]) -> Answer {
+    let device = model_device(device);
     let request = model_request(request);
     match code {
-        Code::Prologue => model::prologue(request, buffer),
-        Code::Epilogue => model::epilogue(request, buffer),
+        Code::Prologue => model::prologue(device, request, buffer),
+        Code::Epilogue => model::epilogue(device, request, buffer),
+    }
+}
+
+/// The model's name for a device of the library.
+pub fn model_device(device: Device) -> model::Device {
+    match device {
+        Device::Fpu => model::Device::Fpu,
+        Device::NoFpu => model::Device::NoFpu,
+    }
+}
+
+/// The answers that a device has: refusal 14 is only for the one without a
+/// unit.
+fn answers_on(device: Device) -> RangeInclusive<usize> {
+    match device {
+        Device::Fpu => 0..=13,
+        Device::NoFpu => 0..=14,
     }
 }
 

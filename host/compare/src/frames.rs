@@ -1,6 +1,6 @@
 //! Groups about frames.
 
-use o32::Request;
+use o32::{Device, Request};
 
 use crate::comparison::{model_code, Code, Comparison};
 use crate::lists::LONG;
@@ -151,7 +151,16 @@ fn number(rng: &mut Rng, limit: u32) -> u32 {
     }
 }
 
-fn random_request(rng: &mut Rng) -> Request {
+/// Pairs to save. Most requests have none where they are refused.
+fn random_pairs(rng: &mut Rng, device: Device, limit: usize) -> u32 {
+    if device == Device::NoFpu && rng.percent(70) {
+        0
+    } else {
+        rng.below(limit) as u32
+    }
+}
+
+fn random_request(rng: &mut Rng, device: Device) -> Request {
     let wild = rng.percent(15);
     let leaf = rng.percent(40);
     let mut general = rng.word() & ALL_REGISTERS;
@@ -170,13 +179,13 @@ fn random_request(rng: &mut Rng) -> Request {
             number(rng, 1_024)
         },
         general,
-        pairs: rng.below(if wild { 80 } else { 64 }) as u32,
+        pairs: random_pairs(rng, device, if wild { 80 } else { 64 }),
     }
 }
 
 pub fn random(comparison: &mut Comparison, rng: &mut Rng) {
     for _ in 0..60_000 {
-        let request = random_request(rng);
+        let request = random_request(rng, comparison.device());
         comparison.frame(request);
         for code in Code::BOTH {
             comparison.code(code, request, rng.below(CODE_ROOM));
@@ -184,13 +193,21 @@ pub fn random(comparison: &mut Comparison, rng: &mut Rng) {
     }
 }
 
-/// A leaf that needs no frame, and a function that saves all it may.
-const SMALLEST_AND_LARGEST: [Request; 2] = [
+/// A leaf that needs no frame, and functions that save all they may without
+/// and with a floating-point unit.
+const SMALLEST_AND_LARGEST: [Request; 3] = [
     Request {
         leaf: 1,
         locals: 0,
         outgoing: 0,
         general: 0,
+        pairs: 0,
+    },
+    Request {
+        leaf: 0,
+        locals: 16_384,
+        outgoing: 1_024,
+        general: ALL_REGISTERS,
         pairs: 0,
     },
     Request {
@@ -205,10 +222,11 @@ const SMALLEST_AND_LARGEST: [Request; 2] = [
 /// Every code buffer length from none to a little beyond the code, and some
 /// that don't fit into sixteen bits.
 pub fn buffers(comparison: &mut Comparison, rng: &mut Rng) {
-    let random: Vec<Request> = (0..1_000).map(|_| random_request(rng)).collect();
+    let device = comparison.device();
+    let random: Vec<Request> = (0..1_000).map(|_| random_request(rng, device)).collect();
     for request in SMALLEST_AND_LARGEST.into_iter().chain(random) {
         for code in Code::BOTH {
-            let length = model_code(code, request, &mut [0; CODE_ROOM]).length as usize;
+            let length = model_code(code, device, request, &mut [0; CODE_ROOM]).length as usize;
             for room in 0..=length + 3 {
                 comparison.code(code, request, room);
             }

@@ -3,6 +3,9 @@
 //! The model serves here only to choose inputs: how long a body is, whether one
 //! more kind would be refused, and which image bytes carry something.
 
+use o32::Device;
+
+use crate::comparison::model_device;
 use crate::rng::Rng;
 
 pub const MARKER: u8 = 0x0A;
@@ -212,16 +215,16 @@ pub fn list_of(rng: &mut Rng, signature: &[u8]) -> Vec<u8> {
 }
 
 /// The image of a list that is accepted.
-pub fn image_of(list: &[u8]) -> Vec<u8> {
+pub fn image_of(device: Device, list: &[u8]) -> Vec<u8> {
     let mut image = vec![0; 1056];
-    let length = model::write(list, &mut image).length;
+    let length = model::write(model_device(device), list, &mut image).length;
     image.truncate(length as usize);
     image
 }
 
 /// For an accepted signature: `FF` for image bytes that carry something, 0 for
 /// those that carry nothing.
-pub fn carried_bytes(signature: &[u8]) -> Vec<u8> {
+pub fn carried_bytes(device: Device, signature: &[u8]) -> Vec<u8> {
     let mut list = Vec::new();
     for &kind in signature {
         // A promoted argument is carried by the whole word, like a word.
@@ -233,7 +236,7 @@ pub fn carried_bytes(signature: &[u8]) -> Vec<u8> {
         list.push(kind);
         list.resize(list.len() + body_length(kind), 0xFF);
     }
-    image_of(&list)
+    image_of(device, &list)
 }
 
 /// Puts random bytes where an image carries nothing.

@@ -1,5 +1,7 @@
 //! Groups about the reader.
 
+use o32::Device;
+
 use crate::comparison::Comparison;
 use crate::generate::{
     accepted_signature, carried_bytes, damage, fill_holes, image_of, known_kind, list_of,
@@ -20,16 +22,18 @@ fn three_images(comparison: &mut Comparison, rng: &mut Rng, signature: &[u8]) {
         return;
     };
     let room = lengths.list + rng.below(4);
-    comparison.read(signature, &written_image(rng, signature), room);
+    let image = written_image(rng, comparison.device(), signature);
+    comparison.read(signature, &image, room);
     comparison.read(signature, &random_image(rng, lengths.image), room);
     let length = wrong_length(rng, lengths.image);
     comparison.read(signature, &random_image(rng, length), room);
 }
 
-/// The image of a list with random bodies and random bytes in its holes.
-fn written_image(rng: &mut Rng, signature: &[u8]) -> Vec<u8> {
-    let mut image = image_of(&list_of(rng, signature));
-    fill_holes(rng, &mut image, &carried_bytes(signature));
+/// The image of a list with random bodies and random bytes in its holes. The
+/// floating words are holes where there is no floating-point unit.
+fn written_image(rng: &mut Rng, device: Device, signature: &[u8]) -> Vec<u8> {
+    let mut image = image_of(device, &list_of(rng, signature));
+    fill_holes(rng, &mut image, &carried_bytes(device, signature));
     image
 }
 
@@ -75,8 +79,8 @@ pub fn written(comparison: &mut Comparison, rng: &mut Rng) {
         let shape = Shape::random(rng);
         let signature = accepted_signature(rng, shape);
         let list = list_of(rng, &signature);
-        let carried = carried_bytes(&signature);
-        let mut image = image_of(&list);
+        let carried = carried_bytes(comparison.device(), &signature);
+        let mut image = image_of(comparison.device(), &list);
         fill_holes(rng, &mut image, &carried);
         comparison.read(&signature, &image, room_near(rng, list.len()));
         comparison.round_trip(&signature, &list, &carried);
@@ -104,7 +108,7 @@ pub fn flipped(comparison: &mut Comparison, rng: &mut Rng) {
             }
         }
         let length = list_of(rng, &signature).len();
-        let mut image = written_image(rng, &signature);
+        let mut image = written_image(rng, comparison.device(), &signature);
         let at = rng.below(image.len());
         let bit = 1 << rng.below(8);
         image[at] ^= rng.pick(&[bit, bit, 0x80, 0xFF]);
@@ -130,7 +134,7 @@ pub fn damaged_signatures(comparison: &mut Comparison, rng: &mut Rng) {
     for _ in 0..100_000 {
         let shape = Shape::random(rng);
         let mut signature = accepted_signature(rng, shape);
-        let image = written_image(rng, &signature);
+        let image = written_image(rng, comparison.device(), &signature);
         damage(rng, &mut signature, &[]);
         comparison.read(&signature, &image, rng.pick(&[1100, 1100, 40, 0]));
     }
@@ -155,7 +159,7 @@ pub fn buffers(comparison: &mut Comparison, rng: &mut Rng) {
     for round in 0..1_600 {
         let signature = accepted_signature(rng, Shape::ALL[round % 4]);
         let length = list_of(rng, &signature).len();
-        let good = written_image(rng, &signature);
+        let good = written_image(rng, comparison.device(), &signature);
         let any = random_image(rng, good.len());
         for room in rooms(length) {
             comparison.read(&signature, &good, room);
@@ -170,7 +174,7 @@ pub fn long(comparison: &mut Comparison, rng: &mut Rng) {
         let shape = Shape::random(rng);
         let signature = accepted_signature(rng, shape);
         let room = list_of(rng, &signature).len();
-        let image = written_image(rng, &signature);
+        let image = written_image(rng, comparison.device(), &signature);
         comparison.read(&signature, &image, LONG + rng.below(2000));
 
         let mut long = image.clone();

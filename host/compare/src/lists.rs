@@ -37,7 +37,7 @@ fn accepted(comparison: &mut Comparison, rng: &mut Rng, shape: Shape, rounds: us
     for _ in 0..rounds {
         let signature = accepted_signature(rng, shape);
         let list = list_of(rng, &signature);
-        let room = room_near(rng, image_of(&list).len());
+        let room = room_near(rng, image_of(comparison.device(), &list).len());
         comparison.write(&list, room);
     }
 }
@@ -111,7 +111,7 @@ pub fn buffers(comparison: &mut Comparison, rng: &mut Rng) {
     for round in 0..1_600 {
         let signature = accepted_signature(rng, Shape::ALL[round % 4]);
         let list = list_of(rng, &signature);
-        for room in rooms(image_of(&list).len()) {
+        for room in rooms(image_of(comparison.device(), &list).len()) {
             comparison.write(&list, room);
         }
     }

@@ -2,7 +2,8 @@
 //!
 //! Every comparison covers all parts of the answer, the whole output buffer,
 //! the canaries around it and around the inputs, and the inputs themselves.
-//! The inputs follow from a seed: `compare [SEED]`, decimal or `0x...`.
+//! Every group runs for both devices. The inputs follow from a seed:
+//! `compare [SEED]`, decimal or `0x...`.
 
 mod comparison;
 mod frames;
@@ -15,7 +16,7 @@ mod rng;
 use std::env;
 use std::process::ExitCode;
 
-use comparison::Comparison;
+use comparison::{Comparison, DEVICES};
 use rng::Rng;
 
 const DEFAULT_SEED: u64 = 0x0032_0032_0032_0032;
@@ -79,7 +80,10 @@ fn main() -> ExitCode {
         run_group(&mut comparison, seed, group);
     }
     comparison.check_coverage();
-    println!("answers compared: {}", comparison.answers_text());
+    for device in DEVICES {
+        let answers = comparison.answers_text(device);
+        println!("answers compared, {device:?}: {answers}");
+    }
     for report in comparison.reports() {
         println!("FAILED {report}");
     }
@@ -97,8 +101,10 @@ fn main() -> ExitCode {
 
 fn run_group(comparison: &mut Comparison, seed: u64, (name, group): Group) {
     let before = comparison.total();
-    comparison.start_group(name);
-    group(comparison, &mut Rng::for_part(seed, name));
+    for device in DEVICES {
+        comparison.start_group(name, device);
+        group(comparison, &mut Rng::for_part(seed, name));
+    }
     println!("{name}: {} comparisons", comparison.total() - before);
 }
 

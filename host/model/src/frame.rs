@@ -1,6 +1,6 @@
 //! Frame layouts, prologues and epilogues.
 
-use crate::{Answer, Refusal};
+use crate::{Answer, Device, Refusal};
 
 /// The frame that a function asks for.
 #[derive(Clone, Copy, Debug, Default, PartialEq, Eq)]
@@ -52,24 +52,24 @@ const JR_RA: u32 = 0x03E0_0008;
 const NOP: u32 = 0;
 
 /// Lays out a frame.
-pub fn frame(request: Request) -> Layout {
-    lay_out(&request).unwrap_or_else(|refusal| Layout {
+pub fn frame(device: Device, request: Request) -> Layout {
+    lay_out(device, &request).unwrap_or_else(|refusal| Layout {
         refusal: refusal.number,
         ..Layout::default()
     })
 }
 
 /// Writes a frame's prologue to the start of `code`.
-pub fn prologue(request: Request, code: &mut [u8]) -> Answer {
-    Answer::from_result(write_prologue(&request, code))
+pub fn prologue(device: Device, request: Request, code: &mut [u8]) -> Answer {
+    Answer::from_result(write_prologue(device, &request, code))
 }
 
 /// Writes a frame's epilogue to the start of `code`.
-pub fn epilogue(request: Request, code: &mut [u8]) -> Answer {
-    Answer::from_result(write_epilogue(&request, code))
+pub fn epilogue(device: Device, request: Request, code: &mut [u8]) -> Answer {
+    Answer::from_result(write_epilogue(device, &request, code))
 }
 
-fn check(request: &Request) -> Result<(), Refusal> {
+fn check(device: Device, request: &Request) -> Result<(), Refusal> {
     let refuse_if = |condition: bool, number| {
         if condition {
             Err(Refusal::nowhere(number))
@@ -83,6 +83,10 @@ fn check(request: &Request) -> Result<(), Refusal> {
         Refusal::MASKS,
     )?;
     refuse_if(
+        device == Device::NoFpu && request.pairs != 0,
+        Refusal::PAIRS_WITHOUT_UNIT,
+    )?;
+    refuse_if(
         !request.leaf && request.general & RETURN_ADDRESS == 0,
         Refusal::RETURN_ADDRESS_NOT_SAVED,
     )?;
@@ -90,9 +94,9 @@ fn check(request: &Request) -> Result<(), Refusal> {
     refuse_if(request.outgoing > outgoing_limit, Refusal::OUTGOING)
 }
 
-fn lay_out(request: &Request) -> Result<Layout, Refusal> {
+fn lay_out(device: Device, request: &Request) -> Result<Layout, Refusal> {
     // No sum before the limits hold: the numbers come from anyone.
-    check(request)?;
+    check(device, request)?;
     let build = if request.leaf {
         0
     } else {
@@ -112,8 +116,8 @@ fn lay_out(request: &Request) -> Result<Layout, Refusal> {
     })
 }
 
-fn write_prologue(request: &Request, code: &mut [u8]) -> Result<usize, Refusal> {
-    let layout = lay_out(request)?;
+fn write_prologue(device: Device, request: &Request, code: &mut [u8]) -> Result<usize, Refusal> {
+    let layout = lay_out(device, request)?;
     let words = if layout.frame == 0 {
         0
     } else {
@@ -127,8 +131,8 @@ fn write_prologue(request: &Request, code: &mut [u8]) -> Result<usize, Refusal> 
     Ok(4 * words)
 }
 
-fn write_epilogue(request: &Request, code: &mut [u8]) -> Result<usize, Refusal> {
-    let layout = lay_out(request)?;
+fn write_epilogue(device: Device, request: &Request, code: &mut [u8]) -> Result<usize, Refusal> {
+    let layout = lay_out(device, request)?;
     let words = saved_words(request) + 2;
     let mut code = Code::of_words(words, code)?;
     code.put_saves(request, &layout, LWC1, LW);

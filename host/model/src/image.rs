@@ -2,20 +2,20 @@
 
 use crate::kind::{Kind, Promotion};
 use crate::records::{Plan, Record};
-use crate::{Answer, Refusal};
+use crate::{Answer, Device, Refusal};
 
 /// Turns an argument list into a call image at the start of `image`.
-pub fn write(list: &[u8], image: &mut [u8]) -> Answer {
-    Answer::from_result(write_image(list, image))
+pub fn write(device: Device, list: &[u8], image: &mut [u8]) -> Answer {
+    Answer::from_result(write_image(device, list, image))
 }
 
 /// Reads a call image back under a signature, as a list at the start of `list`.
-pub fn read(signature: &[u8], image: &[u8], list: &mut [u8]) -> Answer {
-    Answer::from_result(read_image(signature, image, list))
+pub fn read(device: Device, signature: &[u8], image: &[u8], list: &mut [u8]) -> Answer {
+    Answer::from_result(read_image(device, signature, image, list))
 }
 
-fn write_image(list: &[u8], image: &mut [u8]) -> Result<usize, Refusal> {
-    let plan = Plan::of_list(list)?;
+fn write_image(device: Device, list: &[u8], image: &mut [u8]) -> Result<usize, Refusal> {
+    let plan = Plan::of_list(device, list)?;
     let length = plan.lengths().image;
     let image = image
         .get_mut(..length)
@@ -36,8 +36,13 @@ fn write_image(list: &[u8], image: &mut [u8]) -> Result<usize, Refusal> {
     Ok(length)
 }
 
-fn read_image(signature: &[u8], image: &[u8], list: &mut [u8]) -> Result<usize, Refusal> {
-    let plan = Plan::of_signature(signature)?;
+fn read_image(
+    device: Device,
+    signature: &[u8],
+    image: &[u8],
+    list: &mut [u8],
+) -> Result<usize, Refusal> {
+    let plan = Plan::of_signature(device, signature)?;
     let lengths = plan.lengths();
     if image.len() != lengths.image {
         return Err(Refusal::nowhere(Refusal::IMAGE_LENGTH));

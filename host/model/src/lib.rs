@@ -15,6 +15,15 @@ pub use image::{read, write};
 
 use records::Plan;
 
+/// The board that a call or a frame is for.
+#[derive(Clone, Copy, Debug, PartialEq, Eq)]
+pub enum Device {
+    /// It has a floating-point unit.
+    Fpu,
+    /// It has none, so no floating register is used.
+    NoFpu,
+}
+
 /// What a writer, a reader or a code writer answers.
 #[derive(Clone, Copy, Debug, Default, PartialEq, Eq)]
 pub struct Answer {
@@ -64,6 +73,7 @@ impl Refusal {
     pub(crate) const LOCALS: u32 = 11;
     pub(crate) const OUTGOING: u32 = 12;
     pub(crate) const SHORT_CODE: u32 = 13;
+    pub(crate) const PAIRS_WITHOUT_UNIT: u32 = 14;
 
     pub(crate) fn at(number: u32, place: usize) -> Self {
         Refusal { number, place }
@@ -85,7 +95,8 @@ pub struct Lengths {
 
 /// The lengths for a signature, if none of its kinds is refused.
 pub fn lengths(signature: &[u8]) -> Option<Lengths> {
-    Plan::of_signature(signature)
+    // Any device will do: offsets don't depend on it, nor do refusals here.
+    Plan::of_signature(Device::Fpu, signature)
         .ok()
         .map(|plan| plan.lengths())
 }

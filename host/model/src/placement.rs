@@ -1,6 +1,7 @@
 //! Where an argument lies in the call image.
 
 use crate::kind::Kind;
+use crate::Device;
 
 /// The register words `$4` to `$7`, then `$f12` to `$f15`.
 pub(crate) const REGISTER_BYTES: usize = 32;
@@ -127,14 +128,14 @@ impl ArgumentArea {
 
     /// Places the next argument, or gives `None` if it would end beyond the
     /// limit.
-    pub(crate) fn place(&mut self, kind: Kind) -> Option<Placement> {
+    pub(crate) fn place(&mut self, device: Device, kind: Kind) -> Option<Placement> {
         let size = kind.size();
         let offset = align_up(self.end, kind.alignment());
         let end = align_up(offset + size, 4);
         if end > END_LIMIT {
             return None;
         }
-        let placement = match self.floating_pair(kind) {
+        let placement = match self.floating_pair(device, kind) {
             Some(pair) => {
                 self.floating += 1;
                 Placement::floating(pair, size)
@@ -147,10 +148,12 @@ impl ArgumentArea {
     }
 
     /// The pair for the next argument. Only the first two arguments get one,
-    /// the second only if the first has one too, and none after the marker.
-    fn floating_pair(&self, kind: Kind) -> Option<usize> {
+    /// the second only if the first has one too, and none after the marker or
+    /// where there is no floating-point unit.
+    fn floating_pair(&self, device: Device, kind: Kind) -> Option<usize> {
+        let has_unit = device == Device::Fpu;
         let only_floats_so_far = self.floating == self.arguments;
-        if kind.is_floating() && only_floats_so_far && !self.variable {
+        if has_unit && kind.is_floating() && only_floats_so_far && !self.variable {
             FLOATING_PAIRS.get(self.arguments).copied()
         } else {
             None
@@ -172,11 +175,11 @@ fn align_up(offset: usize, alignment: usize) -> usize {
 mod tests {
     use super::*;
 
-    fn place_all(kinds: &[Kind]) -> (Vec<(usize, usize)>, usize) {
+    fn place_all(device: Device, kinds: &[Kind]) -> (Vec<(usize, usize)>, usize) {
         let mut area = ArgumentArea::default();
         let placements = kinds
             .iter()
-            .map(|&kind| area.place(kind).expect("within the limit"))
+            .map(|&kind| area.place(device, kind).expect("within the limit"))
             .map(|placement| (placement.start, placement.together))
             .collect();
         (placements, area.size())
@@ -184,7 +187,7 @@ mod tests {
 
     #[test]
     fn a_structure_is_split_between_registers_and_stack() {
-        let (placements, size) = place_all(&[Kind::Word, Kind::Structure(20)]);
+        let (placements, size) = place_all(Device::Fpu, &[Kind::Word, Kind::Structure(20)]);
         assert_eq!(placements, [(0, 4), (4, 12)]);
         assert_eq!(size, 24);
 
@@ -197,7 +200,8 @@ mod tests {
 
     #[test]
     fn a_third_float_goes_by_its_offset() {
-        let (placements, size) = place_all(&[Kind::Single, Kind::Double, Kind::Single]);
+        let (placements, size) =
+            place_all(Device::Fpu, &[Kind::Single, Kind::Double, Kind::Single]);
         assert_eq!(placements, [(16, 4), (28, 4), (48, 4)]);
         assert_eq!(size, 24);
     }
@@ -217,9 +221,17 @@ mod tests {
 
     #[test]
     fn a_float_behind_an_integer_gets_no_floating_register() {
-        let (placements, _) = place_all(&[Kind::Word, Kind::Single]);
+        let (placements, _) = place_all(Device::Fpu, &[Kind::Word, Kind::Single]);
         assert_eq!(placements, [(0, 4), (4, 4)]);
-        let (placements, _) = place_all(&[Kind::Single, Kind::Word, Kind::Single]);
+        let (placements, _) = place_all(Device::Fpu, &[Kind::Single, Kind::Word, Kind::Single]);
         assert_eq!(placements, [(16, 4), (4, 4), (8, 4)]);
+    }
+
+    #[test]
+    fn without_a_unit_floats_go_by_their_offsets() {
+        let kinds = [Kind::Double, Kind::Single, Kind::Double];
+        let (placements, size) = place_all(Device::NoFpu, &kinds);
+        assert_eq!(placements, [(0, 8), (8, 4), (48, 8)]);
+        assert_eq!(size, 24);
     }
 }

@@ -2,7 +2,7 @@
 
 use crate::kind::Kind;
 use crate::placement::{ArgumentArea, Placement, REGISTER_BYTES};
-use crate::{Lengths, Refusal};
+use crate::{Device, Lengths, Refusal};
 
 /// Arguments in a list, a return pointer counted and the marker not.
 const ARGUMENT_LIMIT: usize = 32;
@@ -38,17 +38,17 @@ pub(crate) struct Plan {
 impl Plan {
     /// The plan for a list.
     #[inline]
-    pub(crate) fn of_list(list: &[u8]) -> Result<Plan, Refusal> {
+    pub(crate) fn of_list(device: Device, list: &[u8]) -> Result<Plan, Refusal> {
         let mut plan = Plan::empty();
-        plan.take_all(list, Form::List)?;
+        plan.take_all(device, list, Form::List)?;
         Ok(plan)
     }
 
     /// The plan for a signature.
     #[inline]
-    pub(crate) fn of_signature(signature: &[u8]) -> Result<Plan, Refusal> {
+    pub(crate) fn of_signature(device: Device, signature: &[u8]) -> Result<Plan, Refusal> {
         let mut plan = Plan::empty();
-        plan.take_all(signature, Form::Signature)?;
+        plan.take_all(device, signature, Form::Signature)?;
         Ok(plan)
     }
 
@@ -83,13 +83,13 @@ impl Plan {
         }
     }
 
-    fn take_all(&mut self, bytes: &[u8], form: Form) -> Result<(), Refusal> {
+    fn take_all(&mut self, device: Device, bytes: &[u8], form: Form) -> Result<(), Refusal> {
         let mut next = 0;
         while let Some(&byte) = bytes.get(next) {
             let room = bytes.len() - next - 1;
             let place = next;
             let kind = self
-                .take(byte, place, form, room)
+                .take(device, byte, place, form, room)
                 .map_err(|number| Refusal::at(number, place))?;
             next += match form {
                 Form::List => 1 + kind.body(),
@@ -101,7 +101,14 @@ impl Plan {
 
     /// Takes the record of a kind byte with `room` bytes behind it, or gives
     /// the refusal's number.
-    fn take(&mut self, byte: u8, place: usize, form: Form, room: usize) -> Result<Kind, u32> {
+    fn take(
+        &mut self,
+        device: Device,
+        byte: u8,
+        place: usize,
+        form: Form,
+        room: usize,
+    ) -> Result<Kind, u32> {
         let kind = Kind::of(byte).ok_or(Refusal::UNKNOWN_KIND)?;
         if !self.may_stand_here(kind) {
             return Err(Refusal::MISPLACED);
@@ -117,7 +124,7 @@ impl Plan {
                 self.area.pass_marker();
                 Placement::default()
             }
-            _ => self.area.place(kind).ok_or(Refusal::BEYOND_LIMIT)?,
+            _ => self.area.place(device, kind).ok_or(Refusal::BEYOND_LIMIT)?,
         };
 
         self.has_return_pointer |= kind == Kind::ReturnPointer;

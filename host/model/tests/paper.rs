@@ -1,6 +1,8 @@
 //! The cases, edges and examples that the rules spell out.
 
-use model::{epilogue, frame, prologue, read, write, Answer, Layout, Request};
+use model::{epilogue, frame, prologue, read, write, Answer, Device, Layout, Request};
+
+use Device::{Fpu, NoFpu};
 
 /// Where a word of the image lies.
 #[derive(Clone, Copy, Debug)]
@@ -64,44 +66,56 @@ fn refused(refusal: u32, place: u32) -> Answer {
 }
 
 /// Writes into a buffer that is larger than any image and gives the image.
-fn written(list: &[u8]) -> Vec<u8> {
+fn written(device: Device, list: &[u8]) -> Vec<u8> {
     let mut buffer = [0xA5; 1100];
-    let answer = write(list, &mut buffer);
+    let answer = write(device, list, &mut buffer);
     assert_eq!((answer.refusal, answer.place), (0, 0), "list {list:02X?}");
     let (image, beyond) = buffer.split_at(answer.length as usize);
     assert!(beyond.iter().all(|&byte| byte == 0xA5));
     image.to_vec()
 }
 
-fn read_back(signature: &[u8], image: &[u8]) -> Vec<u8> {
+fn read_back(device: Device, signature: &[u8], image: &[u8]) -> Vec<u8> {
     let mut buffer = [0xA5; 1100];
-    let answer = read(signature, image, &mut buffer);
+    let answer = read(device, signature, image, &mut buffer);
     assert_eq!((answer.refusal, answer.place), (0, 0));
     let (list, beyond) = buffer.split_at(answer.length as usize);
     assert!(beyond.iter().all(|&byte| byte == 0xA5));
     list.to_vec()
 }
 
-fn write_refusal(list: &[u8]) -> Answer {
-    let mut buffer = [0xA5; 1100];
-    let answer = write(list, &mut buffer);
-    assert_eq!(buffer, [0xA5; 1100]);
+/// The refusals of lists and signatures are the same on both devices.
+fn on_both_devices(answer_on: impl Fn(Device) -> Answer) -> Answer {
+    let answer = answer_on(Fpu);
+    assert_eq!(answer_on(NoFpu), answer);
     answer
+}
+
+fn write_refusal(list: &[u8]) -> Answer {
+    on_both_devices(|device| {
+        let mut buffer = [0xA5; 1100];
+        let answer = write(device, list, &mut buffer);
+        assert_eq!(buffer, [0xA5; 1100]);
+        answer
+    })
 }
 
 fn read_refusal(signature: &[u8], image: &[u8], room: usize) -> Answer {
-    let mut buffer = vec![0xA5; room];
-    let answer = read(signature, image, &mut buffer);
-    assert!(buffer.iter().all(|&byte| byte == 0xA5));
-    answer
+    on_both_devices(|device| {
+        let mut buffer = vec![0xA5; room];
+        let answer = read(device, signature, image, &mut buffer);
+        assert!(buffer.iter().all(|&byte| byte == 0xA5));
+        answer
+    })
 }
 
-/// A list must give the image and the image must give the list back.
+/// With a floating-point unit, a list must give the image and the image must
+/// give the list back.
 fn check(list: &str, signature: &str, area: usize, words: &[(At, u32)]) {
     let (list, signature) = (hex(list), hex(signature));
     let image = image_of(area, words);
-    assert_eq!(written(&list), image, "list {list:02X?}");
-    assert_eq!(read_back(&signature, &image), list);
+    assert_eq!(written(Fpu, &list), image, "list {list:02X?}");
+    assert_eq!(read_back(Fpu, &signature, &image), list);
 }
 
 const WORD: &str = "05 00000000";
@@ -211,26 +225,33 @@ fn the_case_in_full() {
         "00000000 00000000 00000007 00000000 00000000 3FF00000 00000000 00000000
                      00000000 00000000 00000000 00000000 40000000 00000000",
     );
-    assert_eq!(written(&list), image);
+    assert_eq!(written(Fpu, &list), image);
     assert_eq!(image.len(), 56);
-    assert_eq!(read_back(&hex("08 05 08"), &image), list);
+    assert_eq!(read_back(Fpu, &hex("08 05 08"), &image), list);
 }
 
-/// Where each argument of a figure's example begins. A double in a floating
-/// pair begins in the odd register, which holds its high half.
+/// The kind byte and the body's size for a letter of the figures; the ellipsis
+/// is a dot.
+fn kind_and_size(letter: char) -> (u8, usize) {
+    match letter {
+        'n' => (0x05, 4),
+        'j' => (0x06, 8),
+        's' => (0x07, 4),
+        'd' => (0x08, 8),
+        '.' => (0x0A, 0),
+        _ => unreachable!("no such letter: {letter}"),
+    }
+}
+
+/// Where each argument of a figure's example begins, with a floating-point
+/// unit. A double in a floating pair begins in the odd register, which holds
+/// its high half.
 fn check_figure(kinds: &str, first_words: &[At]) {
     let mut list = Vec::new();
     let mut signature = Vec::new();
     let mut numbers = 1..;
     for kind in kinds.chars() {
-        let (byte, size) = match kind {
-            'n' => (0x05, 4),
-            'j' => (0x06, 8),
-            's' => (0x07, 4),
-            'd' => (0x08, 8),
-            '.' => (0x0A, 0),
-            _ => unreachable!("no such letter: {kind}"),
-        };
+        let (byte, size) = kind_and_size(kind);
         list.push(byte);
         signature.push(byte);
         // A number of its own in the first word tells the arguments apart.
@@ -239,14 +260,14 @@ fn check_figure(kinds: &str, first_words: &[At]) {
             list.resize(list.len() + size - 4, 0);
         }
     }
-    let image = written(&list);
+    let image = written(Fpu, &list);
     for (index, at) in first_words.iter().enumerate() {
         let word = &image[4 * at.word()..][..4];
         assert_eq!(word, (index as u32 + 1).to_be_bytes(), "{kinds}, {at:?}");
     }
     let carrying = image.chunks(4).filter(|word| word[3] != 0).count();
     assert_eq!(carrying, first_words.len(), "{kinds}");
-    assert_eq!(read_back(&signature, &image), list);
+    assert_eq!(read_back(Fpu, &signature, &image), list);
 }
 
 #[test]
@@ -296,6 +317,92 @@ fn further_examples_with_long_integers() {
     check_figure("ss.", &[F(12), F(14)]);
 }
 
+/// Where every word of an example lies without a floating-point unit. The words
+/// are numbered from 1 in the order of the list.
+fn check_emulation(kinds: &str, area: usize, places: &[At]) {
+    let mut list = Vec::new();
+    let mut signature = Vec::new();
+    let mut numbers = 1u32..;
+    for kind in kinds.chars() {
+        let (byte, size) = kind_and_size(kind);
+        signature.push(byte);
+        list.push(byte);
+        list.extend(
+            numbers
+                .by_ref()
+                .take(size / 4)
+                .flat_map(|number| number.to_be_bytes()),
+        );
+    }
+    let words: Vec<(At, u32)> = places.iter().copied().zip(1..).collect();
+    let mut image = image_of(area, &words);
+    assert_eq!(written(NoFpu, &list), image, "{kinds}");
+    assert_eq!(read_back(NoFpu, &signature, &image), list, "{kinds}");
+    image[16..32].fill(0xEE);
+    assert_eq!(read_back(NoFpu, &signature, &image), list, "{kinds}");
+}
+
+/// The first sequence of each entry of the first table in source 001.
+#[test]
+fn emulation_column() {
+    check_emulation("nnnn", 16, &[R(4), R(5), R(6), R(7)]);
+    check_emulation("ssss", 16, &[R(4), R(5), R(6), R(7)]);
+    check_emulation("dd", 16, &[R(4), R(5), R(6), R(7)]);
+    check_emulation("ss", 16, &[R(4), R(5)]);
+    check_emulation("ds", 16, &[R(4), R(5), R(6)]);
+    check_emulation("sd", 16, &[R(4), R(6), R(7)]);
+    check_emulation("ssd", 16, &[R(4), R(5), R(6), R(7)]);
+    check_emulation("dsd", 24, &[R(4), R(5), R(6), Stack(16), Stack(20)]);
+    check_emulation("dsss", 24, &[R(4), R(5), R(6), R(7), Stack(16)]);
+    check_emulation("nd", 16, &[R(4), R(6), R(7)]);
+    check_emulation("nsd", 16, &[R(4), R(5), R(6), R(7)]);
+    check_emulation("jd", 16, &[R(4), R(5), R(6), R(7)]);
+    check_emulation("js", 16, &[R(4), R(5), R(6)]);
+}
+
+/// Likewise of the second table, with an ellipsis behind the first argument.
+#[test]
+fn emulation_column_with_an_ellipsis() {
+    check_emulation("n.d", 16, &[R(4), R(6), R(7)]);
+    check_emulation("s.d", 16, &[R(4), R(6), R(7)]);
+    check_emulation("d.s", 16, &[R(4), R(5), R(6)]);
+    check_emulation("d.nd", 24, &[R(4), R(5), R(6), Stack(16), Stack(20)]);
+    check_emulation("j.d", 16, &[R(4), R(5), R(6), R(7)]);
+}
+
+#[test]
+fn a_double_a_single_and_a_double_without_a_unit() {
+    let list = hex("08 3FF0000000000000 07 40400000 08 4000000000000001");
+    let image = hex(
+        "3FF00000 00000000 40400000 00000000 00000000 00000000 00000000 00000000
+                     00000000 00000000 00000000 00000000 40000000 00000001",
+    );
+    assert_eq!(written(NoFpu, &list), image);
+    assert_eq!(image.len(), 56);
+    assert_eq!(read_back(NoFpu, &hex("08 07 08"), &image), list);
+}
+
+#[test]
+fn without_a_unit_the_reader_ignores_the_floating_words() {
+    let mut short_float = image_of(16, &[(R(4), 0xFFFF_FF80), (R(5), 0x1112_1314)]);
+    let mut two_floats = image_of(16, &[(R(4), 0x1112_1314), (R(5), 0x2122_2324)]);
+    let mut nothing = image_of(16, &[]);
+    for byte in 0..=0xFF {
+        for image in [&mut short_float, &mut two_floats, &mut nothing] {
+            image[16..32].fill(byte);
+        }
+        assert_eq!(
+            read_back(NoFpu, &hex("01 07"), &short_float),
+            hex("01 80 07 11121314")
+        );
+        assert_eq!(
+            read_back(NoFpu, &hex("07 07"), &two_floats),
+            hex("07 11121314 07 21222324")
+        );
+        assert_eq!(read_back(NoFpu, &[], &nothing), []);
+    }
+}
+
 #[test]
 fn a_return_pointer_keeps_floats_out_of_their_registers() {
     check(
@@ -309,9 +416,9 @@ fn a_return_pointer_keeps_floats_out_of_their_registers() {
 #[test]
 fn the_last_argument_may_end_at_1024() {
     let mut list = [big_structure(), big_structure()].concat();
-    assert_eq!(written(&list).len(), 1056);
+    assert_eq!(written(Fpu, &list).len(), 1056);
     // A marker behind it is no argument and takes no room.
-    assert_eq!(written(&[&list[..], &[0x0A]].concat()).len(), 1056);
+    assert_eq!(written(Fpu, &[&list[..], &[0x0A]].concat()).len(), 1056);
     list.extend(hex(WORD));
     assert_eq!(write_refusal(&list), refused(5, 1026));
     assert_eq!(read_refusal(&[0xFF, 0xFF, 0x05], &[], 0), refused(5, 2));
@@ -322,8 +429,8 @@ fn the_last_argument_may_end_at_1024() {
 #[test]
 fn thirty_two_arguments_are_enough() {
     let mut list = hex(WORD).repeat(32);
-    assert_eq!(written(&list).len(), 32 + 128);
-    assert_eq!(written(&[&list[..], &[0x0A]].concat()).len(), 32 + 128);
+    assert_eq!(written(Fpu, &list).len(), 32 + 128);
+    assert_eq!(written(Fpu, &[&list[..], &[0x0A]].concat()).len(), 32 + 128);
     let two_markers = [&list[..], &[0x0A, 0x0A]].concat();
     assert_eq!(write_refusal(&two_markers), refused(2, 161));
     list.extend(hex(WORD));
@@ -369,7 +476,7 @@ fn the_reader_refuses_6_then_7_then_8() {
 fn the_reader_takes_only_proper_promotions() {
     let read_word = |kind, word| {
         let mut list = [0; 3];
-        read(&[kind], &image_of(16, &[(R(4), word)]), &mut list).refusal
+        read(Fpu, &[kind], &image_of(16, &[(R(4), word)]), &mut list).refusal
     };
     for (kind, proper, improper) in [
         (0x01, 0xFFFF_FF80, 0x0000_0080),
@@ -389,22 +496,22 @@ fn the_reader_takes_only_proper_promotions() {
 #[test]
 fn the_reader_ignores_what_carries_nothing() {
     let list = hex("07 11121314 05 00000009 45 010203040506");
-    let mut image = written(&list);
+    let mut image = written(Fpu, &list);
     // `$4` is the single's unused home register, `$f13` to `$f15` are free,
     // the last two bytes of `$7` are fill, and the area holds only homes.
     for hole in [0..4, 14..16, 20..48] {
         image[hole].fill(0xEE);
     }
-    assert_eq!(read_back(&hex("07 05 45"), &image), list);
+    assert_eq!(read_back(Fpu, &hex("07 05 45"), &image), list);
 }
 
 #[test]
 fn output_buffers_of_every_length() {
     let list = hex("05 00000009 45 010203040506");
-    let image = written(&list);
+    let image = written(Fpu, &list);
     for room in 0..image.len() + 4 {
         let mut buffer = vec![0xA5; room];
-        let answer = write(&list, &mut buffer);
+        let answer = write(Fpu, &list, &mut buffer);
         if room < image.len() {
             assert_eq!(answer, refused(7, 0));
             assert!(buffer.iter().all(|&byte| byte == 0xA5));
@@ -437,22 +544,25 @@ fn layout(numbers: [u32; 5]) -> Layout {
     }
 }
 
-fn codes(request: Request) -> (Vec<u8>, Vec<u8>) {
+fn codes(device: Device, request: Request) -> (Vec<u8>, Vec<u8>) {
     let mut buffer = [0xA5; 128];
-    let answer = prologue(request, &mut buffer);
+    let answer = prologue(device, request, &mut buffer);
     assert_eq!((answer.refusal, answer.place), (0, 0));
     let first = buffer[..answer.length as usize].to_vec();
-    let answer = epilogue(request, &mut buffer);
+    let answer = epilogue(device, request, &mut buffer);
     assert_eq!((answer.refusal, answer.place), (0, 0));
     (first, buffer[..answer.length as usize].to_vec())
 }
 
 #[test]
 fn the_example_frame() {
-    assert_eq!(frame(EXAMPLE), layout([32, 16, 16, 16, 24]));
-    let (prologue, epilogue) = codes(EXAMPLE);
-    assert_eq!(prologue, hex("27BDFFE0 AFB00010 AFBF0014"));
-    assert_eq!(epilogue, hex("8FB00010 8FBF0014 03E00008 27BD0020"));
+    // It saves no pair, so it is the same on both devices.
+    for device in [Fpu, NoFpu] {
+        assert_eq!(frame(device, EXAMPLE), layout([32, 16, 16, 16, 24]));
+        let (prologue, epilogue) = codes(device, EXAMPLE);
+        assert_eq!(prologue, hex("27BDFFE0 AFB00010 AFBF0014"));
+        assert_eq!(epilogue, hex("8FB00010 8FBF0014 03E00008 27BD0020"));
+    }
 }
 
 #[test]
@@ -464,14 +574,14 @@ fn short_code_buffers_are_refused() {
         } else {
             success(12)
         };
-        assert_eq!(prologue(EXAMPLE, &mut code), expected);
+        assert_eq!(prologue(Fpu, EXAMPLE, &mut code), expected);
         let mut code = vec![0xA5; room];
         let expected = if room < 16 {
             refused(13, 0)
         } else {
             success(16)
         };
-        assert_eq!(epilogue(EXAMPLE, &mut code), expected);
+        assert_eq!(epilogue(Fpu, EXAMPLE, &mut code), expected);
         assert!(room >= 16 || code.iter().all(|&byte| byte == 0xA5));
     }
 }
@@ -482,10 +592,12 @@ fn a_leaf_without_anything_has_no_frame() {
         leaf: true,
         ..Request::default()
     };
-    assert_eq!(frame(request), layout([0; 5]));
-    assert_eq!(prologue(request, &mut []), success(0));
-    assert_eq!(epilogue(request, &mut [0; 7]), refused(13, 0));
-    assert_eq!(codes(request).1, hex("03E00008 00000000"));
+    for device in [Fpu, NoFpu] {
+        assert_eq!(frame(device, request), layout([0; 5]));
+        assert_eq!(prologue(device, request, &mut []), success(0));
+        assert_eq!(epilogue(device, request, &mut [0; 7]), refused(13, 0));
+        assert_eq!(codes(device, request).1, hex("03E00008 00000000"));
+    }
 }
 
 #[test]
@@ -497,8 +609,11 @@ fn the_largest_frame() {
         general: 0xC0FF_0000,
         pairs: 63,
     };
-    assert_eq!(frame(request), layout([17_496, 1024, 1024, 1072, 1112]));
-    let (prologue, epilogue) = codes(request);
+    assert_eq!(
+        frame(Fpu, request),
+        layout([17_496, 1024, 1024, 1072, 1112])
+    );
+    let (prologue, epilogue) = codes(Fpu, request);
     assert_eq!(prologue.len(), 4 * 23);
     assert_eq!(epilogue.len(), 4 * 24);
     // -17,496 is BBA8 in sixteen bits.
@@ -506,6 +621,29 @@ fn the_largest_frame() {
     assert_eq!(prologue[48..56], hex("E7BF042C AFB00430"));
     assert_eq!(prologue[84..], hex("AFBE0450 AFBF0454"));
     assert_eq!(epilogue[88..], hex("03E00008 27BD4458"));
+}
+
+#[test]
+fn the_largest_frame_without_a_unit() {
+    let request = Request {
+        leaf: false,
+        locals: 16_384,
+        outgoing: 1_024,
+        general: 0xC0FF_0000,
+        pairs: 0,
+    };
+    // The floating save area is empty, which leaves out 48 of 17,496 bytes.
+    assert_eq!(
+        frame(NoFpu, request),
+        layout([17_448, 1024, 1024, 1024, 1064])
+    );
+    let (prologue, epilogue) = codes(NoFpu, request);
+    assert_eq!(prologue.len(), 4 * 11);
+    assert_eq!(epilogue.len(), 4 * 12);
+    // -17,448 is BBD8 in sixteen bits.
+    assert_eq!(prologue[..8], hex("27BDBBD8 AFB00400"));
+    assert_eq!(prologue[36..], hex("AFBE0420 AFBF0424"));
+    assert_eq!(epilogue[40..], hex("03E00008 27BD4428"));
 }
 
 #[test]
@@ -517,9 +655,25 @@ fn an_odd_number_of_registers_is_padded_at_the_top() {
         general: 1 << 18,
         pairs: 0b10_0001,
     };
-    assert_eq!(frame(request), layout([32, 0, 0, 16, 24]));
+    assert_eq!(frame(Fpu, request), layout([32, 0, 0, 16, 24]));
     let expected = hex("27BDFFE0 E7B40000 E7B50004 E7BE0008 E7BF000C AFB20010");
-    assert_eq!(codes(request).0, expected);
+    assert_eq!(codes(Fpu, request).0, expected);
+}
+
+/// A refusal of layout, prologue and epilogue, whether or not there is room for
+/// code.
+fn check_frame_refusal(device: Device, request: Request, number: u32) {
+    let expected = Layout {
+        refusal: number,
+        ..Layout::default()
+    };
+    assert_eq!(frame(device, request), expected);
+    for code in [prologue, epilogue] {
+        let mut room = [0xA5; 200];
+        assert_eq!(code(device, request, &mut []), refused(number, 0));
+        assert_eq!(code(device, request, &mut room), refused(number, 0));
+        assert_eq!(room, [0xA5; 200]);
+    }
 }
 
 #[test]
@@ -563,19 +717,60 @@ fn frame_refusals_in_their_order() {
         (outgoing_wrong, 12),
         (leaf_calls, 12),
     ] {
-        let expected = Layout {
-            refusal: number,
-            ..Layout::default()
-        };
-        assert_eq!(frame(request), expected);
-        assert_eq!(prologue(request, &mut []), refused(number, 0));
-        assert_eq!(epilogue(request, &mut [0; 200]), refused(number, 0));
+        // Only requests that are 9 anyway name pairs, so the device is of no
+        // account.
+        check_frame_refusal(Fpu, request, number);
+        check_frame_refusal(NoFpu, request, number);
     }
     for bit in (0..16).chain(24..30) {
         let request = Request {
             general: 1 << bit,
             ..leaf
         };
-        assert_eq!(frame(request).refusal, 9);
+        assert_eq!(frame(Fpu, request).refusal, 9);
     }
+}
+
+#[test]
+fn pairs_without_a_unit_are_refused_behind_9_and_before_10() {
+    // Refused 10, 11 and 12 as well, and 13 where there is no room.
+    let all_pairs = Request {
+        leaf: false,
+        locals: u32::MAX,
+        outgoing: u32::MAX,
+        general: 0,
+        pairs: 63,
+    };
+    let one_pair = Request {
+        pairs: 1,
+        ..all_pairs
+    };
+    let beyond_the_pairs = Request {
+        pairs: 64,
+        ..all_pairs
+    };
+    let far_beyond_the_pairs = Request {
+        pairs: u32::MAX,
+        ..all_pairs
+    };
+    let wrong_register = Request {
+        general: 1 << 15,
+        ..all_pairs
+    };
+    let nothing_else_wrong = Request {
+        pairs: 63,
+        ..EXAMPLE
+    };
+    for (request, with_unit, without_unit) in [
+        (all_pairs, 10, 14),
+        (one_pair, 10, 14),
+        (beyond_the_pairs, 9, 9),
+        (far_beyond_the_pairs, 9, 9),
+        (wrong_register, 9, 9),
+    ] {
+        check_frame_refusal(Fpu, request, with_unit);
+        check_frame_refusal(NoFpu, request, without_unit);
+    }
+    assert_eq!(frame(Fpu, nothing_else_wrong).refusal, 0);
+    check_frame_refusal(NoFpu, nothing_else_wrong, 14);
 }

@@ -5,6 +5,15 @@
 //! has returned, so a Rust slice is all that it needs. This is the only crate
 //! of the workspace with `unsafe` code.
 
+/// The board that a call or a frame is for, as the C functions take it.
+#[derive(Clone, Copy, Debug, PartialEq, Eq)]
+pub enum Device {
+    /// It has a floating-point unit.
+    Fpu = 0,
+    /// It has none, so no floating register is used.
+    NoFpu = 1,
+}
+
 /// What a writer, a reader or a code writer answers.
 ///
 /// `refusal` is 0 on success. `place` is the offset of the refused kind byte,
@@ -57,6 +66,7 @@ mod capi {
 
     extern "C" {
         pub fn o32_write(
+            device: u32,
             list: *const u8,
             list_len: usize,
             image: *mut u8,
@@ -64,6 +74,7 @@ mod capi {
         ) -> Answer;
 
         pub fn o32_read(
+            device: u32,
             signature: *const u8,
             signature_len: usize,
             image: *const u8,
@@ -72,10 +83,17 @@ mod capi {
             list_len: usize,
         ) -> Answer;
 
-        pub fn o32_frame(leaf: u32, locals: u32, outgoing: u32, general: u32, pairs: u32)
-            -> Layout;
+        pub fn o32_frame(
+            device: u32,
+            leaf: u32,
+            locals: u32,
+            outgoing: u32,
+            general: u32,
+            pairs: u32,
+        ) -> Layout;
 
         pub fn o32_prologue(
+            device: u32,
             leaf: u32,
             locals: u32,
             outgoing: u32,
@@ -86,6 +104,7 @@ mod capi {
         ) -> Answer;
 
         pub fn o32_epilogue(
+            device: u32,
             leaf: u32,
             locals: u32,
             outgoing: u32,
@@ -99,19 +118,28 @@ mod capi {
 
 /// Turns an argument list into a call image at the start of `image`.
 #[inline]
-pub fn write(list: &[u8], image: &mut [u8]) -> Answer {
+pub fn write(device: Device, list: &[u8], image: &mut [u8]) -> Answer {
     // SAFETY: both pointers are valid for the lengths that go with them, the
     // one for reads and the other for writes, and the borrows keep them apart.
-    unsafe { capi::o32_write(list.as_ptr(), list.len(), image.as_mut_ptr(), image.len()) }
+    unsafe {
+        capi::o32_write(
+            device as u32,
+            list.as_ptr(),
+            list.len(),
+            image.as_mut_ptr(),
+            image.len(),
+        )
+    }
 }
 
 /// Reads a call image back under a signature, as a list at the start of `list`.
 #[inline]
-pub fn read(signature: &[u8], image: &[u8], list: &mut [u8]) -> Answer {
+pub fn read(device: Device, signature: &[u8], image: &[u8], list: &mut [u8]) -> Answer {
     // SAFETY: as for `write`; signature and image are only read, so it does no
     // harm if they overlap.
     unsafe {
         capi::o32_read(
+            device as u32,
             signature.as_ptr(),
             signature.len(),
             image.as_ptr(),
@@ -124,7 +152,7 @@ pub fn read(signature: &[u8], image: &[u8], list: &mut [u8]) -> Answer {
 
 /// Lays out a frame.
 #[inline]
-pub fn frame(request: Request) -> Layout {
+pub fn frame(device: Device, request: Request) -> Layout {
     let Request {
         leaf,
         locals,
@@ -133,12 +161,12 @@ pub fn frame(request: Request) -> Layout {
         pairs,
     } = request;
     // SAFETY: only numbers cross the boundary, and any number may.
-    unsafe { capi::o32_frame(leaf, locals, outgoing, general, pairs) }
+    unsafe { capi::o32_frame(device as u32, leaf, locals, outgoing, general, pairs) }
 }
 
 /// Writes a frame's prologue to the start of `code`.
 #[inline]
-pub fn prologue(request: Request, code: &mut [u8]) -> Answer {
+pub fn prologue(device: Device, request: Request, code: &mut [u8]) -> Answer {
     let Request {
         leaf,
         locals,
@@ -149,6 +177,7 @@ pub fn prologue(request: Request, code: &mut [u8]) -> Answer {
     // SAFETY: the pointer is valid for writes of the length that goes with it.
     unsafe {
         capi::o32_prologue(
+            device as u32,
             leaf,
             locals,
             outgoing,
@@ -162,7 +191,7 @@ pub fn prologue(request: Request, code: &mut [u8]) -> Answer {
 
 /// Writes a frame's epilogue to the start of `code`.
 #[inline]
-pub fn epilogue(request: Request, code: &mut [u8]) -> Answer {
+pub fn epilogue(device: Device, request: Request, code: &mut [u8]) -> Answer {
     let Request {
         leaf,
         locals,
@@ -173,6 +202,7 @@ pub fn epilogue(request: Request, code: &mut [u8]) -> Answer {
     // SAFETY: as for `prologue`.
     unsafe {
         capi::o32_epilogue(
+            device as u32,
             leaf,
             locals,
             outgoing,

@@ -2,8 +2,9 @@
 -- Assumes nothing.
 use mathlib.Core.Path.{sym, _∙_}
 use mathlib.Core.Bool.{false}
+use Rattle.device.specs.declared.Device.{Device}
 use Rattle.call.proofs.Writing.{end-in-bounds}
-use Rattle.call.proofs.Reading.{found, read-refused, read-wrong, read-short, read-room, read-improper, read-done}
+use Rattle.call.proofs.Reading.{Found, found, read-refused, read-wrong, read-short, read-room, read-improper, read-done}
 use borrow.Author.Needs.{needs}
 use Rattle.call.proofs.read.Statement.{statement}
 use Rattle.call.proofs.read.Tie as tie
@@ -21,25 +22,47 @@ refused-requires : tie.Need-refused-requires
 refused-requires c κs = search needs
 
 returns : tie.Need-returns
-returns c = let r = read-refused (c .before .before .before .before .before .before .before .args .signature .now) (c .before .before .before .before .before .before .before .args .image .now) (c .before .before .before .before .before .before .before .args .out .now) (c .before .before .before .measure-signature .result) _ _ (c .refused .result) (c .before .before .before .measure-signature .ensures) (c .before .enum-told .given .1) (c .refused .ensures _ _ (c .before .enum-told .given .1)) in (r .answer, r .buffer)
+returns c =
+    let s = c .before .before .before .before .before .before .before .args in
+    let r = read-refused (s .device) (s .signature .now) (s .image .now) (s .out .now) (c .before .before .before .measure-signature .result) _ _ (c .refused .result) (c .before .before .before .measure-signature .ensures (s .device)) (c .before .enum-told .given .1) (c .refused .ensures _ _ (c .before .enum-told .given .1)) in
+    (r .answer, r .buffer)
 
 image-length-requires : tie.Need-image-length-requires
-image-length-requires c κs = end-in-bounds false (c .before .before .before .before .before .before .before .args .signature .now) _ _ (sym (c .before .found .given .1) ∙ c .before .before .before .measure-signature .ensures)
+image-length-requires c κs =
+    let s = c .before .before .before .before .before .before .before .args in
+    end-in-bounds (s .device) false (s .signature .now) _ _ (sym (c .before .found .given .1) ∙ c .before .before .before .measure-signature .ensures (s .device))
 
 reply-requires : tie.Need-reply-requires
 reply-requires c κs = search needs
 
 returns-2 : tie.Need-returns-2
-returns-2 c = let r = read-wrong (c .before .before .before .before .before .before .before .before .before .before .args .signature .now) (c .before .before .before .before .before .before .before .before .before .before .args .image .now) (c .before .before .before .before .before .before .before .before .before .before .args .out .now) _ (c .before .before .before .before .found .given .0 .1 .0) (c .before .before .image-length .result) (sym (c .before .before .before .before .found .given .1) ∙ c .before .before .before .before .before .before .measure-signature .ensures) (c .before .before .image-length .ensures) (c .before .if1 .taken) in (c .reply .ensures ∙ r .answer, r .buffer)
+returns-2 c =
+    let s = c .before .before .before .before .before .before .before .before .before .before .args in
+    let r = read-wrong (s .device) (s .signature .now) (s .image .now) (s .out .now) _ (c .before .before .before .before .found .given .0 .1 .0) (c .before .before .image-length .result) (sym (c .before .before .before .before .found .given .1) ∙ c .before .before .before .before .before .before .measure-signature .ensures (s .device)) (c .before .before .image-length .ensures) (c .before .if1 .taken) in
+    (c .reply .ensures ∙ r .answer, r .buffer)
+
+-- the signature is accepted, and the image is as long as it says, on every device
+accepted : (c : tie.Else1) (d : Device) → (let s = c .before .before .before .before .before .before .before .before .before .args in
+    Found d (s .signature .now) (s .image .now) (c .before .before .before .found .given .0 .0))
+accepted c d =
+    let s = c .before .before .before .before .before .before .before .before .before .args in
+    let m = c .before .before .before in
+    found d (s .signature .now) (s .image .now) (m .found .given .0 .0) (m .found .given .0 .1 .0) (c .before .image-length .result)
+    (λ x. sym (m .found .given .1) ∙ m .before .before .measure-signature .ensures x) (c .before .image-length .ensures) (c .if1 .left)
 
 reply-requires-2 : tie.Need-reply-requires-2
 reply-requires-2 c κs = search needs
 
 returns-3 : tie.Need-returns-3
-returns-3 c = let r = read-short (c .before .before .before .before .before .before .before .before .before .before .before .args .signature .now) (c .before .before .before .before .before .before .before .before .before .before .before .args .image .now) (c .before .before .before .before .before .before .before .before .before .before .before .args .out .now) (c .before .before .before .before .before .found .given .0 .0) (found (c .before .before .before .before .before .before .before .before .before .before .before .args .signature .now) (c .before .before .before .before .before .before .before .before .before .before .before .args .image .now) (c .before .before .before .before .before .found .given .0 .0) (c .before .before .before .before .before .found .given .0 .1 .0) (c .before .before .before .image-length .result) (sym (c .before .before .before .before .before .found .given .1) ∙ c .before .before .before .before .before .before .before .measure-signature .ensures) (c .before .before .before .image-length .ensures) (c .before .before .if1 .left)) (c .before .if2 .taken) in (c .reply2 .ensures ∙ r .answer, r .buffer)
+returns-3 c =
+    let s = c .before .before .before .before .before .before .before .before .before .before .before .args in
+    let r = read-short (s .device) (s .signature .now) (s .image .now) (s .out .now) _ (accepted (c .before .before) (s .device)) (c .before .if2 .taken) in
+    (c .reply2 .ensures ∙ r .answer, r .buffer)
 
 deliver-requires : tie.Need-deliver-requires
-deliver-requires c κs = ((found (c .before .before .before .before .before .before .before .before .before .before .before .args .signature .now) (c .before .before .before .before .before .before .before .before .before .before .before .args .image .now) (c .before .before .before .before .before .found .given .0 .0) (c .before .before .before .before .before .found .given .0 .1 .0) (c .before .before .before .image-length .result) (sym (c .before .before .before .before .before .found .given .1) ∙ c .before .before .before .before .before .before .before .measure-signature .ensures) (c .before .before .before .image-length .ensures) (c .before .before .if1 .left)) .readable, read-room (c .before .before .before .before .before .before .before .before .before .before .before .args .signature .now) (c .before .before .before .before .before .before .before .before .before .before .before .args .image .now) (c .before .before .before .before .before .before .before .before .before .before .before .args .out .now) (c .before .before .before .before .before .found .given .0 .0) (found (c .before .before .before .before .before .before .before .before .before .before .before .args .signature .now) (c .before .before .before .before .before .before .before .before .before .before .before .args .image .now) (c .before .before .before .before .before .found .given .0 .0) (c .before .before .before .before .before .found .given .0 .1 .0) (c .before .before .before .image-length .result) (sym (c .before .before .before .before .before .found .given .1) ∙ c .before .before .before .before .before .before .before .measure-signature .ensures) (c .before .before .before .image-length .ensures) (c .before .before .if1 .left)) (c .before .if2 .left))
+deliver-requires c κs =
+    let s = c .before .before .before .before .before .before .before .before .before .before .before .args in
+    (accepted (c .before .before) (s .device) .readable, read-room (s .device) (s .signature .now) (s .image .now) (s .out .now) _ (accepted (c .before .before) (s .device)) (c .before .if2 .left))
 
 enum-told-2 : tie.Need-enum-told-2
 enum-told-2 c = search needs
@@ -54,7 +77,11 @@ same-length : tie.Need-same-length
 same-length c = search needs
 
 returns-4 : tie.Need-returns-4
-returns-4 c = let r = read-improper (c .before .before .before .before .before .before .before .before .before .before .before .before .before .before .before .before .before .args .signature .now) (c .before .before .before .before .before .before .before .before .before .before .before .before .before .before .before .before .before .args .image .now) (c .before .before .before .before .before .before .before .before .before .before .before .before .before .before .before .before .before .args .out .now) (c .before .before .before .before .before .before .before .before .before .before .before .found .given .0 .0) (found (c .before .before .before .before .before .before .before .before .before .before .before .before .before .before .before .before .before .args .signature .now) (c .before .before .before .before .before .before .before .before .before .before .before .before .before .before .before .before .before .args .image .now) (c .before .before .before .before .before .before .before .before .before .before .before .found .given .0 .0) (c .before .before .before .before .before .before .before .before .before .before .before .found .given .0 .1 .0) (c .before .before .before .before .before .before .before .before .before .image-length .result) (sym (c .before .before .before .before .before .before .before .before .before .before .before .found .given .1) ∙ c .before .before .before .before .before .before .before .before .before .before .before .before .before .measure-signature .ensures) (c .before .before .before .before .before .before .before .before .before .image-length .ensures) (c .before .before .before .before .before .before .before .before .if1 .left)) (c .before .before .before .before .before .before .before .if2 .left) (c .before .before .before .before .before .deliver .result) _ (c .improper .result) _ (c .before .before .before .before .before .deliver .ensures .0) (c .before .before .before .before .before .deliver .ensures .1) (c .before .enum-told3 .given .1) (c .improper .ensures _ (c .before .enum-told3 .given .1)) in (r .answer, r .buffer)
+returns-4 c =
+    let s = c .before .before .before .before .before .before .before .before .before .before .before .before .before .before .before .before .before .args in
+    let v = accepted (c .before .before .before .before .before .before .before .before) (s .device) in
+    let r = read-improper (s .device) (s .signature .now) (s .image .now) (s .out .now) _ v (c .before .before .before .before .before .before .before .if2 .left) (c .before .before .before .before .before .deliver .result) _ (c .improper .result) _ (c .before .before .before .before .before .deliver .ensures .0) (c .before .before .before .before .before .deliver .ensures .1) (c .before .enum-told3 .given .1) (c .improper .ensures _ (c .before .enum-told3 .given .1)) in
+    (r .answer, r .buffer)
 
 reply-requires-3 : tie.Need-reply-requires-3
 reply-requires-3 c κs = search needs
@@ -63,7 +90,11 @@ same-length-2 : tie.Need-same-length-2
 same-length-2 c = search needs
 
 returns-5 : tie.Need-returns-5
-returns-5 c = let r = read-done (c .before .before .before .before .before .before .before .before .before .before .before .before .before .before .before .before .before .args .signature .now) (c .before .before .before .before .before .before .before .before .before .before .before .before .before .before .before .before .before .args .image .now) (c .before .before .before .before .before .before .before .before .before .before .before .before .before .before .before .before .before .args .out .now) (c .before .before .before .before .before .before .before .before .before .before .before .found .given .0 .0) (found (c .before .before .before .before .before .before .before .before .before .before .before .before .before .before .before .before .before .args .signature .now) (c .before .before .before .before .before .before .before .before .before .before .before .before .before .before .before .before .before .args .image .now) (c .before .before .before .before .before .before .before .before .before .before .before .found .given .0 .0) (c .before .before .before .before .before .before .before .before .before .before .before .found .given .0 .1 .0) (c .before .before .before .before .before .before .before .before .before .image-length .result) (sym (c .before .before .before .before .before .before .before .before .before .before .before .found .given .1) ∙ c .before .before .before .before .before .before .before .before .before .before .before .before .before .measure-signature .ensures) (c .before .before .before .before .before .before .before .before .before .image-length .ensures) (c .before .before .before .before .before .before .before .before .if1 .left)) (c .before .before .before .before .before .before .before .if2 .left) (c .before .before .before .before .before .deliver .result) _ (c .before .before .before .before .before .deliver .ensures .0) (c .before .before .before .before .before .deliver .ensures .1) (c .before .enum-told2 .given .1) in (c .reply3 .ensures ∙ r .answer, r .buffer)
+returns-5 c =
+    let s = c .before .before .before .before .before .before .before .before .before .before .before .before .before .before .before .before .before .args in
+    let v = accepted (c .before .before .before .before .before .before .before .before) (s .device) in
+    let r = read-done (s .device) (s .signature .now) (s .image .now) (s .out .now) _ v (c .before .before .before .before .before .before .before .if2 .left) (c .before .before .before .before .before .deliver .result) _ (c .before .before .before .before .before .deliver .ensures .0) (c .before .before .before .before .before .deliver .ensures .1) (c .before .enum-told2 .given .1) in
+    (c .reply3 .ensures ∙ r .answer, r .buffer)
 
 pub read-spec : {M : Type 1} → statement M
 read-spec =

@@ -3,6 +3,8 @@
 use mathlib.Core.Path.{sym, _∙_}
 use mathlib.Core.Bool.{true}
 use native.Mathlib.Omega.{arith}
+use Rattle.device.specs.declared.Device.{Device}
+use Rattle.writer.specs.Filling.{Fillable}
 use Rattle.call.proofs.Writing.{fillable, end-in-bounds, write-refused, write-short, write-done}
 use borrow.Author.Needs.{needs}
 use Rattle.call.proofs.write.Statement.{statement}
@@ -21,19 +23,31 @@ refused-requires : tie.Need-refused-requires
 refused-requires c κs = search needs
 
 returns : tie.Need-returns
-returns c = let r = write-refused (c .before .before .before .before .before .before .args .list .now) (c .before .before .before .before .before .before .args .out .now) (c .before .before .before .measure-list .result) _ _ (c .refused .result) (c .before .before .before .measure-list .ensures) (c .before .enum-told .given .1) (c .refused .ensures _ _ (c .before .enum-told .given .1)) in (r .answer, r .buffer)
+returns c =
+    let s = c .before .before .before .before .before .before .args in
+    let r = write-refused (s .device) (s .list .now) (s .out .now) (c .before .before .before .measure-list .result) _ _ (c .refused .result) (c .before .before .before .measure-list .ensures (s .device)) (c .before .enum-told .given .1) (c .refused .ensures _ _ (c .before .enum-told .given .1)) in
+    (r .answer, r .buffer)
 
 image-length-requires : tie.Need-image-length-requires
-image-length-requires c κs = end-in-bounds true (c .before .before .before .before .before .before .args .list .now) _ _ (sym (c .before .found .given .1) ∙ c .before .before .before .measure-list .ensures)
+image-length-requires c κs = let s = c .before .before .before .before .before .before .args in end-in-bounds (s .device) true (s .list .now) _ _ (sym (c .before .found .given .1) ∙ c .before .before .before .measure-list .ensures (s .device))
+
+-- the list is accepted, and its image has this length, on every device
+accepted : (c : tie.After-image-length) (d : Device) → Fillable d (c .before .before .before .before .before .before .before .args .list .now) (c .image-length .result)
+accepted c d =
+    fillable d (c .before .before .before .before .before .before .before .args .list .now) _ (c .before .before .found .given .0 .1 .0) (c .image-length .result)
+    (λ x. sym (c .before .before .found .given .1) ∙ c .before .before .before .before .measure-list .ensures x) (c .image-length .ensures)
 
 reply-requires : tie.Need-reply-requires
 reply-requires c κs = search needs
 
 returns-2 : tie.Need-returns-2
-returns-2 c = let r = write-short (c .before .before .before .before .before .before .before .before .before .args .list .now) (c .before .before .before .before .before .before .before .before .before .args .out .now) (c .before .before .image-length .result) (fillable (c .before .before .before .before .before .before .before .before .before .args .list .now) _ (c .before .before .before .before .found .given .0 .1 .0) (c .before .before .image-length .result) (sym (c .before .before .before .before .found .given .1) ∙ c .before .before .before .before .before .before .measure-list .ensures) (c .before .before .image-length .ensures)) (c .before .if1 .taken) in (c .reply .ensures ∙ r .answer, r .buffer)
+returns-2 c =
+    let s = c .before .before .before .before .before .before .before .before .before .args in
+    let r = write-short (s .device) (s .list .now) (s .out .now) _ (accepted (c .before .before) (s .device)) (c .before .if1 .taken) in
+    (c .reply .ensures ∙ r .answer, r .buffer)
 
 lay-requires : tie.Need-lay-requires
-lay-requires c κs = (fillable (c .before .before .before .before .before .before .before .before .before .args .list .now) _ (c .before .before .before .before .found .given .0 .1 .0) (c .before .before .image-length .result) (sym (c .before .before .before .before .found .given .1) ∙ c .before .before .before .before .before .before .measure-list .ensures) (c .before .before .image-length .ensures), omega arith)
+lay-requires c κs = (accepted (c .before .before) _, omega arith)
 
 reply-requires-2 : tie.Need-reply-requires-2
 reply-requires-2 c κs = search needs
@@ -42,7 +56,10 @@ same-length : tie.Need-same-length
 same-length c = search needs
 
 returns-3 : tie.Need-returns-3
-returns-3 c = let r = write-done (c .before .before .before .before .before .before .before .before .before .before .before .before .before .args .list .now) (c .before .before .before .before .before .before .before .before .before .before .before .before .before .args .out .now) (c .before .before .before .before .before .before .image-length .result) (fillable (c .before .before .before .before .before .before .before .before .before .before .before .before .before .args .list .now) _ (c .before .before .before .before .before .before .before .before .found .given .0 .1 .0) (c .before .before .before .before .before .before .image-length .result) (sym (c .before .before .before .before .before .before .before .before .found .given .1) ∙ c .before .before .before .before .before .before .before .before .before .before .measure-list .ensures) (c .before .before .before .before .before .before .image-length .ensures)) _ (omega arith) (c .before .before .before .lay .ensures) in (c .reply2 .ensures ∙ r .answer, r .buffer)
+returns-3 c =
+    let s = c .before .before .before .before .before .before .before .before .before .before .before .before .before .args in
+    let r = write-done (s .device) (s .list .now) (s .out .now) _ (accepted (c .before .before .before .before .before .before) (s .device)) _ (omega arith) (c .before .before .before .lay .ensures) in
+    (c .reply2 .ensures ∙ r .answer, r .buffer)
 
 pub write-spec : {M : Type 1} → statement M
 write-spec =

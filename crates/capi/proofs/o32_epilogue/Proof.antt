@@ -11,19 +11,23 @@ use Rattle.capi.proofs.o32_epilogue.Tie as tie
 as-request-requires : tie.Need-as-request-requires
 as-request-requires c κs = search needs
 
+as-device-requires : tie.Need-as-device-requires
+as-device-requires c κs = search needs
+
 epilogue-requires : tie.Need-epilogue-requires
 epilogue-requires c κs = search needs
 
 narrowed-requires : tie.Need-narrowed-requires
-narrowed-requires c κs = epilogue-fits (c .before .before .before .before .as-request .result) (length (c .before .before .before .before .before .before .args .code .now)) (c .before .before .epilogue .ensures .0)
+narrowed-requires c κs = epilogue-fits (c .before .before .before .before .as-device .result) (c .before .before .before .before .before .as-request .result) (length (c .before .before .before .before .before .before .before .args .code .now)) (c .before .before .epilogue .ensures .0)
 
 same-length : tie.Need-same-length
 same-length c = search needs
 
 returns : tie.Need-returns
 returns c =
-    let e = c .before .before .before .before .before .as-request .ensures in
-    (c .narrowed .ensures ∙ ap narrow (rw e at (c .before .before .before .epilogue .ensures .0)), rw e at (c .before .before .before .epilogue .ensures .1))
+    let d = c .before .before .before .before .before .as-device .ensures in
+    let e = c .before .before .before .before .before .before .as-request .ensures in
+    (c .narrowed .ensures ∙ ap narrow (rw (d, e) at (c .before .before .before .epilogue .ensures .0)), rw (d, e) at (c .before .before .before .epilogue .ensures .1))
 
 pub o32-epilogue-spec : {M : Type 1} → statement M
-o32-epilogue-spec = tie.close (tie.spec as-request-requires epilogue-requires narrowed-requires same-length returns)
+o32-epilogue-spec = tie.close (tie.spec as-request-requires as-device-requires epilogue-requires narrowed-requires same-length returns)

@@ -2,25 +2,36 @@
 -- Assumes nothing.
 use mathlib.Core.Path.{ap, _∙_}
 use lib.ListN.{length}
+use Rattle.device.specs.declared.Device.{Device}
+use Rattle.answers.specs.Answers.{answerOf, bufferOf}
+use Rattle.call.specs.Answers.{writeInto}
 use Rattle.capi.specs.Numbers.{narrow}
 use Rattle.capi.proofs.Bounds.{write-fits}
 use borrow.Author.Needs.{needs}
 use Rattle.capi.proofs.o32_write.Statement.{statement}
 use Rattle.capi.proofs.o32_write.Tie as tie
 
+as-device-requires : tie.Need-as-device-requires
+as-device-requires c κs = search needs
+
 write-requires : tie.Need-write-requires
 write-requires c κs = search needs
 
 narrowed-requires : tie.Need-narrowed-requires
 narrowed-requires c κs =
-    let s = c .before .before .before .before .before .before .args in
-    write-fits (s .list .now) (length (s .image .now)) (c .before .before .write .ensures .0)
+    let s = c .before .before .before .before .before .before .before .args in
+    write-fits (c .before .before .before .before .as-device .result) (s .list .now) (length (s .image .now)) (c .before .before .write .ensures .0)
 
 same-length : tie.Need-same-length
 same-length c = search needs
 
 returns : tie.Need-returns
-returns c = (c .narrowed .ensures ∙ ap narrow (c .before .before .before .write .ensures .0), c .before .before .before .write .ensures .1)
+returns c =
+    let s = c .before .before .before .before .before .before .before .before .args in
+    let e = c .before .before .before .before .before .as-device .ensures in (
+      c .narrowed .ensures ∙ ap narrow (c .before .before .before .write .ensures .0 ∙ ap (λ (d : Device). answerOf (writeInto d (s .list .now) (length (s .image .now)))) e),
+      c .before .before .before .write .ensures .1 ∙ ap (λ (d : Device). bufferOf (writeInto d (s .list .now) (length (s .image .now))) (s .image .now)) e,
+    )
 
 pub o32-write-spec : {M : Type 1} → statement M
-o32-write-spec = tie.close (tie.spec write-requires narrowed-requires same-length returns)
+o32-write-spec = tie.close (tie.spec as-device-requires write-requires narrowed-requires same-length returns)

@@ -86,7 +86,7 @@ read-requires c κs = tt
 
 slice-aggregate-show : tie.Need-slice-aggregate-show
 slice-aggregate-show c =
-    omega (arith, c .before .before .before .before .before .before .before .put .kept .0, length-front (c .before .before .before .before .before .before .before .put .last .0) (c .before .before .read .last .1 .1 .0) (c .before .before .before .before .before .before .before .before .before .before .before .before .before .before .before .before .before .before .before .before .before .before .before .before .args .room) (c .before .before .read .kept .1 .1 .0))
+    omega (arith, c .before .before .before .before .before .before .before .put .kept .0, length-front (c .before .before .before .before .before .before .before .put .last .0) (c .before .before .read .last .1 .1 .1 .0) (c .before .before .before .before .before .before .before .before .before .before .before .before .before .before .before .before .before .before .before .before .before .before .before .before .args .room) (c .before .before .read .kept .1 .1 .1 .0))
 
 show-requires : tie.Need-show-requires
 show-requires c κs = tt

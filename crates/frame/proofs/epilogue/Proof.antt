@@ -19,14 +19,14 @@ reply-requires : tie.Need-reply-requires
 reply-requires c κs = search needs
 
 returns : tie.Need-returns
-returns c = rw (code-refused _ (c .before .before .layout-of .ensures) (c .before .if1 .taken)) (c .reply .ensures, refl)
+returns c = rw (code-refused _ _ (c .before .before .layout-of .ensures) (c .before .if1 .taken)) (c .reply .ensures, refl)
 
 -- not refused
-ok : (c : tie.Else1) → Laid (c .before .before .before .args .request) (c .before .layout-of .result)
-ok c = laid _ (c .before .layout-of .ensures) (c .if1 .left)
+ok : (c : tie.Else1) → Laid (c .before .before .before .args .device) (c .before .before .before .args .request) (c .before .layout-of .result)
+ok c = laid _ _ (c .before .layout-of .ensures) (c .if1 .left)
 
 saves-length-requires : tie.Need-saves-length-requires
-saves-length-requires c κs = ok c .accepted
+saves-length-requires c κs = ok c .masks
 
 add-length : tie.Need-add-length
 add-length c = search needs
@@ -38,7 +38,7 @@ returns-2 : tie.Need-returns-2
 returns-2 c =
     let s = c .before .before .before .before .before .before .args in
     let o = ok (c .before .before .before) in
-    rw (code-short (s .request) (epilogueWords (s .request)) (length (s .out .now)) (o .accepted) (omega (arith, epilogue-length (s .request))))
+    rw (code-short (s .device) (s .request) (epilogueWords (s .request)) (length (s .out .now)) (o .accepted) (omega (arith, epilogue-length (s .request))))
     (c .reply2 .ensures, refl)
 
 delay-slot-requires : tie.Need-delay-slot-requires
@@ -46,8 +46,8 @@ delay-slot-requires c κs = ok (c .before .before) .frame-le
 
 put-saves-requires : tie.Need-put-saves-requires
 put-saves-requires c κs =
-    let i = c .before .before .before .before in
-    ((i .before .layout-of .ensures, i .if1 .left, omega arith, omega arith), omega arith)
+    let o = ok (c .before .before .before .before) in
+    ((o .masks, omega arith, omega arith), ((o .floating, o .general), ((omega (arith, o .floating-le), omega (arith, o .general-le)), omega arith)))
 
 write-word-requires : tie.Need-write-word-requires
 write-word-requires c κs = search needs
@@ -74,7 +74,7 @@ returns-3 c =
     let last = rw (c .before .before .before .before .before .before .before .before .before .before .before .before .before .delay-slot .ensures, o .frame) at (c .before .before .before .write-word2 .ensures) in
     let saves = c .before .before .before .before .before .before .before .before .before .before .before .put-saves .ensures in
     let put = epilogue-put r _ _ _ _ _ (saves .1) (saves .0) (c .before .before .before .before .before .before .before .write-word .ensures) last in
-    let f = finished r (epilogueWords r) (s .out .now) (o .accepted) size (omega (arith, i .if2 .left)) put in
+    let f = finished (s .device) r (epilogueWords r) (s .out .now) (o .accepted) size (omega (arith, i .if2 .left)) put in
     (c .reply3 .ensures ∙ f .0, f .1)
 
 pub epilogue-spec : {M : Type 1} → statement M

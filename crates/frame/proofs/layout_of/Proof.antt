@@ -17,7 +17,7 @@ unfolding layoutOf
 returns c = simp (← c .before .refusal .ensures, ne-eqb _ _ (c .if1 .taken))
 
 few : (c : tie.Else1) → Small (c .before .before .args .request)
-few c = small _ (sym (c .before .refusal .ensures) ∙ c .if1 .left)
+few c = small (c .before .before .args .device) _ (sym (c .before .refusal .ensures) ∙ c .if1 .left)
 
 build-area-requires : tie.Need-build-area-requires
 build-area-requires c κs = few c .outgoing
@@ -50,8 +50,8 @@ returns-2 c =
     simp (
       ← c .before .before .before .before .before .before .before .refusal .ensures,
       eq-eqb _ _ (c .before .before .before .before .before .before .if1 .left),
-      ← s .pairs,
-      ← s .general,
+      ← s .counts .pairs,
+      ← s .counts .general,
       c .round-up2 .ensures,
       c .before .before .round-up .ensures,
       c .before .before .before .before .before .build-area .ensures,

@@ -21,14 +21,14 @@ reply-requires : tie.Need-reply-requires
 reply-requires c κs = search needs
 
 returns : tie.Need-returns
-returns c = rw (code-refused _ (c .before .before .layout-of .ensures) (c .before .if1 .taken)) (c .reply .ensures, refl)
+returns c = rw (code-refused _ _ (c .before .before .layout-of .ensures) (c .before .if1 .taken)) (c .reply .ensures, refl)
 
 reply-requires-2 : tie.Need-reply-requires-2
 reply-requires-2 c κs = search needs
 
 -- not refused
-ok : (c : tie.Else1) → Laid (c .before .before .before .args .request) (c .before .layout-of .result)
-ok c = laid _ (c .before .layout-of .ensures) (c .if1 .left)
+ok : (c : tie.Else1) → Laid (c .before .before .before .args .device) (c .before .before .before .args .request) (c .before .layout-of .result)
+ok c = laid _ _ (c .before .layout-of .ensures) (c .if1 .left)
 
 returns-2 : tie.Need-returns-2
 returns-2 c =
@@ -36,11 +36,11 @@ returns-2 c =
     let o = ok (c .before .before) in
     let z = prologue-none r (sym (o .frame) ∙ c .before .if2 .taken) in
     let buf : List ℕ = c .before .before .before .before .before .args .out .now in
-    let f = finished r (prologueWords r) buf {out = buf} (o .accepted) (sym (ap length z)) (omega arith) (rw z refl) in
+    let f = finished (c .before .before .before .before .before .args .device) r (prologueWords r) buf {out = buf} (o .accepted) (sym (ap length z)) (omega arith) (rw z refl) in
     (c .reply2 .ensures ∙ f .0, f .1)
 
 saves-length-requires : tie.Need-saves-length-requires
-saves-length-requires c κs = ok (c .before) .accepted
+saves-length-requires c κs = ok (c .before) .masks
 
 add-length : tie.Need-add-length
 add-length c = search needs
@@ -59,7 +59,7 @@ returns-3 : tie.Need-returns-3
 returns-3 c =
     let s = c .before .before .before .before .before .before .before .args in
     let o = ok (c .before .before .before .before) in
-    rw (code-short (s .request) (prologueWords (s .request)) (length (s .out .now)) (o .accepted) (omega (arith, size (c .before .before))))
+    rw (code-short (s .device) (s .request) (prologueWords (s .request)) (length (s .out .now)) (o .accepted) (omega (arith, size (c .before .before))))
     (c .reply3 .ensures, refl)
 
 negated-requires : tie.Need-negated-requires
@@ -73,8 +73,8 @@ write-word-requires c κs = search needs
 
 put-saves-requires : tie.Need-put-saves-requires
 put-saves-requires c κs =
-    let i = c .before .before .before .before .before .before .before .before .before in
-    ((i .before .layout-of .ensures, i .if1 .left, omega arith, omega arith), omega arith)
+    let o = ok (c .before .before .before .before .before .before .before .before .before) in
+    ((o .masks, omega arith, omega arith), ((o .floating, o .general), ((omega (arith, o .floating-le), omega (arith, o .general-le)), omega arith)))
 
 reply-requires-4 : tie.Need-reply-requires-4
 reply-requires-4 c κs = search needs
@@ -90,7 +90,7 @@ returns-4 c =
     let o = ok (z .before .before) in
     let first = rw (c .before .before .before .before .before .before .before .before .negated .ensures, o .frame) at (c .before .before .before .before .before .before .before .write-word .ensures) in
     let put = prologue-put r (framed (z .before)) _ _ _ first (c .before .before .before .put-saves .ensures .1) in
-    let f = finished r (prologueWords r) (s .out .now) (o .accepted) (sym (size z)) (omega arith) put in
+    let f = finished (s .device) r (prologueWords r) (s .out .now) (o .accepted) (sym (size z)) (omega arith) put in
     (c .reply4 .ensures ∙ f .0, f .1)
 
 pub prologue-spec : {M : Type 1} → statement M

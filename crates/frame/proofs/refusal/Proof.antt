@@ -1,60 +1,72 @@
--- `refusal` meets its contract: each return rewrites `refusalOf` with the tests that led there.
+-- `refusal` meets its contract: each return is the first refusal whose condition holds, in the order of `refusalOf`.
 -- Assumes nothing.
 use mathlib.Core.Path.{_≡_, sym, _∙_}
-use mathlib.Core.Bool.{false, not, _&&_, cond, and-false}
-use mathlib.Core.Logic.{⊎-elim}
-use lib.Dec.{eqb}
-use borrow.Author.Tests.{lt-ltb, le-ltb, eq-eqb, ne-eqb}
-use Rattle.saves.specs.Frame.{refusalOf, outside, unreturning}
+use mathlib.Core.Bool.{Bool, cond}
+use lib.Dec.{ltb}
+use borrow.Author.Tests.{lt-ltb, le-ltb}
+use Rattle.device.specs.declared.Device.{Device}
+use Rattle.saves.specs.declared.Request.{Request}
+use Rattle.saves.specs.Frame.{outside, withoutUnit, unreturning, overfull, refusalOf}
+use borrow.Author.Needs.{needs}
 use Rattle.frame.proofs.refusal.Statement.{statement}
 use Rattle.frame.proofs.refusal.Tie as tie
 
-returns : tie.Need-returns
+is-outside-requires : tie.Need-is-outside-requires
+is-outside-requires c κs = search needs
+
+is-without-unit-requires : tie.Need-is-without-unit-requires
+is-without-unit-requires c κs = search needs
+
+is-unreturning-requires : tie.Need-is-unreturning-requires
+is-unreturning-requires c κs = search needs
+
+is-overfull-requires : tie.Need-is-overfull-requires
+is-overfull-requires c κs = search needs
+
+-- the refusals in their order, by what the tests have answered
+ordered : (d : Device) (r : Request) {o w u f : Bool} → o ≡ outside r → w ≡ withoutUnit d r → u ≡ unreturning r → f ≡ overfull r
+    → refusalOf d r ≡ cond o 9 (cond w 14 (cond u 10 (cond (ltb 16384 (r .locals)) 11 (cond f 12 0))))
 unfolding refusalOf
-returns c = simp (ne-eqb _ _ (c .if1 .taken))
+ordered d r o w u f = rw (o, w, u, f)
+
+tested : (c : tie.After-is-overfull)
+    → refusalOf (c .before .before .before .before .args .device) (c .before .before .before .before .args .request)
+    ≡ cond (c .before .before .before .is-outside .result) 9 (cond (c .before .before .is-without-unit .result) 14 (cond (c .before .is-unreturning .result) 10
+    (cond (ltb 16384 (c .before .before .before .before .args .request .locals)) 11 (cond (c .is-overfull .result) 12 0))))
+tested c =
+    ordered _ _ (c .before .before .before .is-outside .ensures) (c .before .before .is-without-unit .ensures) (c .before .is-unreturning .ensures) (c .is-overfull .ensures)
+
+returns : tie.Need-returns
+returns c = sym (tested (c .before) ∙ simp (c .if1 .taken))
 
 returns-2 : tie.Need-returns-2
-unfolding refusalOf
-returns-2 c = simp (eq-eqb _ _ (c .before .before .if1 .left), lt-ltb _ _ (c .if2 .taken))
-
--- the masks name nothing else
-inside : (c : tie.Else2) → outside (c .before .before .before .args .request) ≡ false
-inside c = simp (eq-eqb _ _ (c .before .before .if1 .left), le-ltb _ _ (c .if2 .left))
+returns-2 c = sym (tested (c .before .before) ∙ simp (c .before .if1 .left, c .if2 .taken))
 
 returns-3 : tie.Need-returns-3
-unfolding refusalOf
-returns-3 c = simp (inside (c .before .before .before), c .before .if3 .taken, ne-eqb _ _ (c .if4 .taken))
-
--- a leaf, or `$31` is named
-returning : (c : tie.Joined3) → unreturning (c .before .before .before .before .before .args .request) ≡ false
-returning c = ⊎-elim (λ w. simp (eq-eqb _ _ (w .1 .left), and-false)) (λ w. simp (w .left)) (c .if3 .came)
+returns-3 c = sym (tested (c .before .before .before) ∙ simp (c .before .before .if1 .left, c .before .if2 .left, c .if3 .taken))
 
 returns-4 : tie.Need-returns-4
-unfolding refusalOf
-returns-4 c = simp (inside (c .before .before .before .before), returning (c .before .before), lt-ltb _ _ (c .if5 .taken))
+returns-4 c = sym (tested (c .before .before .before .before .before) ∙ simp (c .before .before .before .before .if1 .left, c .before .before .before .if2 .left, c .before .before .if3 .left, lt-ltb _ _ (c .if4 .taken)))
 
 returns-5 : tie.Need-returns-5
-unfolding refusalOf
 returns-5 c =
-    simp (inside (c .before .before .before .before .before .before), returning (c .before .before .before .before), le-ltb _ _ (c .before .before .if5 .left), lt-ltb _ _ (c .if6 .taken))
-
--- the bytes of locals and of outgoing arguments are within their limits
-limits : (c : tie.Else6) → (let r = c .before .before .before .before .before .before .before .before .before .args .request in
-    refusalOf r ≡ cond (r .leaf && not (eqb (r .outgoing) 0)) 12 0)
-unfolding refusalOf
-limits c =
-    simp (inside (c .before .before .before .before .before .before), returning (c .before .before .before .before), le-ltb _ _ (c .before .before .if5 .left), le-ltb _ _ (c .if6 .left))
+    sym (tested (c .before .before .before .before .before .before) ∙ simp (c .before .before .before .before .before .if1 .left, c .before .before .before .before .if2 .left, c .before .before .before .if3 .left, le-ltb _ _ (c .before .if4 .left), c .if5 .taken))
 
 returns-6 : tie.Need-returns-6
-returns-6 c = sym (limits (c .before .before .before) ∙ simp (c .before .before .if7 .taken, ne-eqb _ _ (c .if8 .taken)))
-
-returns-7 : tie.Need-returns-7
-returns-7 c = sym (limits (c .before .before .before) ∙ simp (c .before .before .if7 .taken, eq-eqb _ _ (c .if8 .left)))
-
-returns-8 : tie.Need-returns-8
-returns-8 c = sym (limits (c .before) ∙ simp (c .if7 .left))
+returns-6 c =
+    sym (tested (c .before .before .before .before .before .before) ∙ simp (c .before .before .before .before .before .if1 .left, c .before .before .before .before .if2 .left, c .before .before .before .if3 .left, le-ltb _ _ (c .before .if4 .left), c .if5 .left))
 
 pub refusal-spec : {M : Type 1} → statement M
 refusal-spec =
     tie.close
-    (tie.spec returns returns-2 returns-3 returns-4 returns-5 returns-6 returns-7 returns-8)
+    (tie.spec
+    is-outside-requires
+    is-without-unit-requires
+    is-unreturning-requires
+    is-overfull-requires
+    returns
+    returns-2
+    returns-3
+    returns-4
+    returns-5
+    returns-6)

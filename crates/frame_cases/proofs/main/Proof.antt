@@ -51,7 +51,7 @@ part-run-end : tie.Need-part-run-end Inv-loop μ-loop
 part-run-end c = omega arith
 
 run-requires : tie.Need-run-requires Inv-loop μ-loop
-run-requires c κs = tt
+run-requires c κs = c .before .before .before .is-case .ensures (c .before .before .if1 .taken)
 
 add-at : tie.Need-add-at Inv-loop μ-loop
 add-at c = omega arith

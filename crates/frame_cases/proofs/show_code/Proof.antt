@@ -26,7 +26,7 @@ code-of-requires : tie.Need-code-of-requires
 code-of-requires c κs = search needs
 
 slice-aggregate-show : tie.Need-slice-aggregate-show
-slice-aggregate-show c = omega (arith, c .before .before .before .before .before .put .kept .0, length-front (c .before .before .before .before .before .put .last .0) (c .before .before .code-of .last .1 .1 .0) (c .before .before .before .before .before .before .before .before .args .room) (c .before .before .code-of .kept .1 .1 .0))
+slice-aggregate-show c = omega (arith, c .before .before .before .before .before .put .kept .0, length-front (c .before .before .before .before .before .put .last .0) (c .before .before .code-of .last .1 .1 .1 .0) (c .before .before .before .before .before .before .before .before .args .room) (c .before .before .code-of .kept .1 .1 .1 .0))
 
 show-requires : tie.Need-show-requires
 show-requires c κs = search needs

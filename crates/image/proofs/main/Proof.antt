@@ -10,6 +10,7 @@ use lib.ListN.{length, take}
 use lib.Seq.{length-take-le}
 use borrow.Author.Tests.{ltb-false}
 use Rattle.carried.specs.Convention.{write}
+use Rattle.device.specs.declared.Device.the-variants.{Fpu}
 use Rattle.carried.specs.Image as C
 use Rattle.o32.specs.O32.{O32}
 use Rattle.answers.specs.declared.Answer.{Answer}
@@ -29,17 +30,17 @@ within-room : (room : ℕ) (found : C.Answer) → answerOf (within 7 room found)
 within-room room (C.refused number place) = omega arith
 within-room room (C.done image) = by-test (ltb room (length image)) room image (ltb-false room (length image))
 
-written : (room : ℕ) (list : List ℕ) → answerOf (writeInto list room) .length ≤ room
-written room list = within-room room (write O32 list)
+written : (room : ℕ) (list : List ℕ) → answerOf (writeInto Fpu list room) .length ≤ room
+written room list = within-room room (write (O32 Fpu) list)
 
-answered-within : (list : List ℕ) {answer : Answer} {room left : ℕ} → answer ≡ answerOf (writeInto list room) → left ≡ room → answer .length ≤ left
+answered-within : (list : List ℕ) {answer : Answer} {room left : ℕ} → answer ≡ answerOf (writeInto Fpu list room) → left ≡ room → answer .length ≤ left
 answered-within list {answer} {room} e kept = omega (arith, written room list, ap (λ (a : Answer). a .length) e)
 
 -- Where the writer has answered: its length lies within the buffer that it left.
-in-image : (c : tie.After-write) → c .write .result .length ≤ length (c .write .last .1 .0)
+in-image : (c : tie.After-write) → c .write .result .length ≤ length (c .write .last .1 .1 .0)
 in-image c =
     let read = c .before .before .before .before .read-full in
-    answered-within (take (read .result) (read .last .1 .0)) (c .write .ensures .0) (c .write .kept .1 .0)
+    answered-within (take (read .result) (read .last .1 .0)) (c .write .ensures .0) (c .write .kept .1 .1 .0)
 
 slice-aggregate-read-full : tie.Need-slice-aggregate-read-full
 slice-aggregate-read-full c = search needs

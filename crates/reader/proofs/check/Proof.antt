@@ -15,10 +15,10 @@ use Rattle.reader.proofs.check.Statement.{statement}
 use Rattle.reader.proofs.check.Tie as tie
 
 abbrev Inv-loop : tie.InvT-loop
-Inv-loop signature image st₀ at₀ st at = Checking signature image (improperIn (plan O32 false signature) image) st at
+Inv-loop device signature image st₀ at₀ st at = Checking device signature image (improperIn (plan (O32 device) false signature) image) st at
 
 abbrev μ-loop : tie.MeasureT-loop
-μ-loop signature image st₀ at₀ st at = length signature - at
+μ-loop device signature image st₀ at₀ st at = length signature - at
 
 start-requires : tie.Need-start-requires Inv-loop μ-loop
 start-requires c κs = search needs
@@ -33,10 +33,10 @@ kind-of-requires : tie.Need-kind-of-requires Inv-loop μ-loop
 kind-of-requires c κs = search needs
 
 placement-of-requires : tie.Need-placement-of-requires Inv-loop μ-loop
-placement-of-requires c κs = ahead-ready false (c .before .before .before .before .before .before .before .args .signature .now) _ (c .before .before .before .loop .st) (c .before .before .before .loop .at) (c .before .before .before .loop .inv .ahead) (c .before .before .loop-test .taken) (c .kind-of .result) (c .kind-of .ensures)
+placement-of-requires c κs = ahead-ready _ false (c .before .before .before .before .before .before .before .args .signature .now) _ (c .before .before .before .loop .st) (c .before .before .before .loop .at) (c .before .before .before .loop .inv .ahead) (c .before .before .loop-test .taken) (c .kind-of .result) (c .kind-of .ensures)
 
 is-proper-requires : tie.Need-is-proper-requires Inv-loop μ-loop
-is-proper-requires c κs = ahead-fit false (c .before .before .before .before .before .before .before .before .args .signature .now) _ (c .before .before .before .before .loop .st) (c .before .before .before .before .loop .at) (c .before .before .before .before .loop .inv .ahead) (c .before .before .before .loop-test .taken) (c .before .kind-of .result) (c .before .kind-of .ensures) _ (c .placement-of .ensures) _ (omega arith)
+is-proper-requires c κs = ahead-fit _ false (c .before .before .before .before .before .before .before .before .args .signature .now) _ (c .before .before .before .before .loop .st) (c .before .before .before .before .loop .at) (c .before .before .before .before .loop .inv .ahead) (c .before .before .before .loop-test .taken) (c .before .kind-of .result) (c .before .kind-of .ensures) _ (c .placement-of .ensures) _ (omega arith)
 
 returns : tie.Need-returns Inv-loop μ-loop
 returns c = search (check-stops, not-true, needs)
@@ -45,7 +45,7 @@ add-at : tie.Need-add-at Inv-loop μ-loop
 add-at c = omega arith
 
 state-behind-requires : tie.Need-state-behind-requires Inv-loop μ-loop
-state-behind-requires c κs = ahead-placed false (c .before .before .before .before .before .before .before .before .before .before .args .signature .now) _ (c .before .before .before .before .before .before .loop .st) (c .before .before .before .before .before .before .loop .at) (c .before .before .before .before .before .before .loop .inv .ahead) (c .before .before .before .before .before .loop-test .taken) (c .before .before .before .kind-of .result) (c .before .before .before .kind-of .ensures) _ (c .before .before .placement-of .ensures)
+state-behind-requires c κs = ahead-placed _ false (c .before .before .before .before .before .before .before .before .before .before .args .signature .now) _ (c .before .before .before .before .before .before .loop .st) (c .before .before .before .before .before .before .loop .at) (c .before .before .before .before .before .before .loop .inv .ahead) (c .before .before .before .before .before .loop-test .taken) (c .before .before .before .kind-of .result) (c .before .before .before .kind-of .ensures) _ (c .before .before .placement-of .ensures)
 
 loop-less : tie.Need-loop-less Inv-loop μ-loop
 loop-less c = omega arith

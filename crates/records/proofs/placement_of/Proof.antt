@@ -4,14 +4,14 @@ use borrow.Author.Needs.{needs}
 use Rattle.records.proofs.placement_of.Statement.{statement}
 use Rattle.records.proofs.placement_of.Tie as tie
 
-align-up-requires : tie.Need-align-up-requires
-align-up-requires c κs = (c .pre .aligned, c .pre .fits)
+offset-of-requires : tie.Need-offset-of-requires
+offset-of-requires c κs = search needs
 
 register-of-requires : tie.Need-register-of-requires
 register-of-requires c κs = search needs
 
 returns : tie.Need-returns
-returns c = rw (c .before .align-up .ensures, c .register-of .ensures)
+returns c = rw (c .before .offset-of .ensures, c .register-of .ensures)
 
 pub placement-of-spec : {M : Type 1} → statement M
-placement-of-spec = tie.close (tie.spec align-up-requires register-of-requires returns)
+placement-of-spec = tie.close (tie.spec offset-of-requires register-of-requires returns)

@@ -1,7 +1,7 @@
 -- `take` meets its contract: each return is the first refusal whose condition holds, or the record's kind and the state behind.
 -- Assumes nothing.
 use mathlib.Core.Path.{sym, _∙_}
-use Rattle.records.proofs.Answers.{refused-1, refused-2, refused-3, refused-4, refused-5, accepted, ready, placed-ready}
+use Rattle.records.proofs.Answers.{refused-1, refused-2, refused-3, refused-4, refused-5, accepted, ready}
 use borrow.Author.Needs.{needs}
 use Rattle.records.proofs.take.Statement.{statement}
 use Rattle.records.proofs.take.Tie as tie
@@ -33,17 +33,17 @@ body-behind-requires c κs = search needs
 returns-4 : tie.Need-returns-4
 returns-4 c = search (refused-4, needs)
 
-placement-of-requires : tie.Need-placement-of-requires
-placement-of-requires c κs = ready (c .before .before .before .before .before .before .before .before .before .args .st) (c .before .before .before .before .before .before .before .before .before .args .byte) (c .before .before .before .before .before .before .before .before .kind-of .result) (c .before .before .before .before .before .before .before .before .kind-of .ensures) (sym (c .before .before .before .is-full .ensures) ∙ c .before .before .if3 .left) (c .before .before .before .before .before .before .before .before .before .pre)
+offset-of-requires : tie.Need-offset-of-requires
+offset-of-requires c κs = ready (c .before .before .before .before .before .before .before .before .before .args .st) (c .before .before .before .before .before .before .before .before .before .args .byte) (c .before .before .before .before .before .before .before .before .kind-of .result) (c .before .before .before .before .before .before .before .before .kind-of .ensures) (sym (c .before .before .before .is-full .ensures) ∙ c .before .before .if3 .left) (c .before .before .before .before .before .before .before .before .before .pre)
 
 state-behind-requires : tie.Need-state-behind-requires
-state-behind-requires c κs = placed-ready (c .before .before .before .before .before .before .before .before .before .before .args .st) (c .before .before .before .before .before .before .before .before .before .kind-of .result) (c .placement-of .result) (c .placement-of .ensures) (ready (c .before .before .before .before .before .before .before .before .before .before .args .st) (c .before .before .before .before .before .before .before .before .before .before .args .byte) (c .before .before .before .before .before .before .before .before .before .kind-of .result) (c .before .before .before .before .before .before .before .before .before .kind-of .ensures) (sym (c .before .before .before .before .is-full .ensures) ∙ c .before .before .before .if3 .left) (c .before .before .before .before .before .before .before .before .before .before .pre))
+state-behind-requires c κs = (ready (c .before .before .before .before .before .before .before .before .before .before .args .st) (c .before .before .before .before .before .before .before .before .before .before .args .byte) (c .before .before .before .before .before .before .before .before .before .kind-of .result) (c .before .before .before .before .before .before .before .before .before .kind-of .ensures) (sym (c .before .before .before .before .is-full .ensures) ∙ c .before .before .before .if3 .left) (c .before .before .before .before .before .before .before .before .before .before .pre), c .offset-of .ensures)
 
 returns-5 : tie.Need-returns-5
-returns-5 c = refused-5 (c .before .before .before .before .before .before .before .before .before .before .before .before .before .args .st) (c .before .before .before .before .before .before .before .before .before .before .before .before .before .args .byte) (c .before .before .before .before .before .before .before .before .before .before .before .before .before .args .bodies) (c .before .before .before .before .before .before .before .before .before .before .before .before .before .args .left) (c .before .before .before .before .before .before .before .before .before .before .before .before .kind-of .result) (c .before .before .before .before .before .before .before .before .before .before .before .before .kind-of .ensures) (c .before .before .before .before .before .before .before .before .before .before .before .is-class .result) (c .before .before .before .before .before .before .before .before .before .before .before .is-class .ensures) (c .before .before .before .before .before .before .before .before .before .before .if1 .left) (c .before .before .before .before .before .before .before .before .before .is-misplaced .result) (c .before .before .before .before .before .before .before .before .before .is-misplaced .ensures) (c .before .before .before .before .before .before .before .before .if2 .left) (c .before .before .before .before .before .before .before .is-full .result) (c .before .before .before .before .before .before .before .is-full .ensures) (c .before .before .before .before .before .before .if3 .left) (c .before .before .before .before .before .body-behind .result) (c .before .before .before .before .before .body-behind .ensures) (c .before .before .before .before .if4 .left) (c .before .before .before .placement-of .result) (c .before .before .before .placement-of .ensures) (c .before .before .state-behind .result) (c .before .before .state-behind .ensures) (c .if5 .taken)
+returns-5 c = refused-5 (c .before .before .before .before .before .before .before .before .before .before .before .before .before .args .st) (c .before .before .before .before .before .before .before .before .before .before .before .before .before .args .byte) (c .before .before .before .before .before .before .before .before .before .before .before .before .before .args .bodies) (c .before .before .before .before .before .before .before .before .before .before .before .before .before .args .left) (c .before .before .before .before .before .before .before .before .before .before .before .before .kind-of .result) (c .before .before .before .before .before .before .before .before .before .before .before .before .kind-of .ensures) (c .before .before .before .before .before .before .before .before .before .before .before .is-class .result) (c .before .before .before .before .before .before .before .before .before .before .before .is-class .ensures) (c .before .before .before .before .before .before .before .before .before .before .if1 .left) (c .before .before .before .before .before .before .before .before .before .is-misplaced .result) (c .before .before .before .before .before .before .before .before .before .is-misplaced .ensures) (c .before .before .before .before .before .before .before .before .if2 .left) (c .before .before .before .before .before .before .before .is-full .result) (c .before .before .before .before .before .before .before .is-full .ensures) (c .before .before .before .before .before .before .if3 .left) (c .before .before .before .before .before .body-behind .result) (c .before .before .before .before .before .body-behind .ensures) (c .before .before .before .before .if4 .left) (c .before .before .state-behind .result) (c .before .before .state-behind .ensures) (c .if5 .taken)
 
 returns-6 : tie.Need-returns-6
-returns-6 c = accepted (c .before .before .before .before .before .before .before .before .before .before .before .before .before .args .st) (c .before .before .before .before .before .before .before .before .before .before .before .before .before .args .byte) (c .before .before .before .before .before .before .before .before .before .before .before .before .before .args .bodies) (c .before .before .before .before .before .before .before .before .before .before .before .before .before .args .left) (c .before .before .before .before .before .before .before .before .before .before .before .before .kind-of .result) (c .before .before .before .before .before .before .before .before .before .before .before .before .kind-of .ensures) (c .before .before .before .before .before .before .before .before .before .before .before .is-class .result) (c .before .before .before .before .before .before .before .before .before .before .before .is-class .ensures) (c .before .before .before .before .before .before .before .before .before .before .if1 .left) (c .before .before .before .before .before .before .before .before .before .is-misplaced .result) (c .before .before .before .before .before .before .before .before .before .is-misplaced .ensures) (c .before .before .before .before .before .before .before .before .if2 .left) (c .before .before .before .before .before .before .before .is-full .result) (c .before .before .before .before .before .before .before .is-full .ensures) (c .before .before .before .before .before .before .if3 .left) (c .before .before .before .before .before .body-behind .result) (c .before .before .before .before .before .body-behind .ensures) (c .before .before .before .before .if4 .left) (c .before .before .before .placement-of .result) (c .before .before .before .placement-of .ensures) (c .before .before .state-behind .result) (c .before .before .state-behind .ensures) (c .if5 .left)
+returns-6 c = accepted (c .before .before .before .before .before .before .before .before .before .before .before .before .before .args .st) (c .before .before .before .before .before .before .before .before .before .before .before .before .before .args .byte) (c .before .before .before .before .before .before .before .before .before .before .before .before .before .args .bodies) (c .before .before .before .before .before .before .before .before .before .before .before .before .before .args .left) (c .before .before .before .before .before .before .before .before .before .before .before .before .kind-of .result) (c .before .before .before .before .before .before .before .before .before .before .before .before .kind-of .ensures) (c .before .before .before .before .before .before .before .before .before .before .before .is-class .result) (c .before .before .before .before .before .before .before .before .before .before .before .is-class .ensures) (c .before .before .before .before .before .before .before .before .before .before .if1 .left) (c .before .before .before .before .before .before .before .before .before .is-misplaced .result) (c .before .before .before .before .before .before .before .before .before .is-misplaced .ensures) (c .before .before .before .before .before .before .before .before .if2 .left) (c .before .before .before .before .before .before .before .is-full .result) (c .before .before .before .before .before .before .before .is-full .ensures) (c .before .before .before .before .before .before .if3 .left) (c .before .before .before .before .before .body-behind .result) (c .before .before .before .before .before .body-behind .ensures) (c .before .before .before .before .if4 .left) (c .before .before .state-behind .result) (c .before .before .state-behind .ensures) (c .if5 .left)
 
 pub take-spec : {M : Type 1} → statement M
 take-spec =
@@ -58,7 +58,7 @@ take-spec =
     returns-3
     body-behind-requires
     returns-4
-    placement-of-requires
+    offset-of-requires
     state-behind-requires
     returns-5
     returns-6)

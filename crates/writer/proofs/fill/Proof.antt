@@ -16,11 +16,11 @@ use Rattle.writer.proofs.fill.Statement.{statement}
 use Rattle.writer.proofs.fill.Tie as tie
 
 abbrev Inv-loop : tie.InvT-loop
-Inv-loop list out₀ n block₀ st₀ at₀ out block st at =
-    (length out ≡ length out₀) × Filling list n (filled (plan O32 true list) list (whole (replicate 8 0) out₀)) st at (whole block out)
+Inv-loop device list out₀ n block₀ st₀ at₀ out block st at =
+    (length out ≡ length out₀) × Filling device list n (filled (plan (O32 device) true list) list (whole (replicate 8 0) out₀)) st at (whole block out)
 
 abbrev μ-loop : tie.MeasureT-loop
-μ-loop list out₀ n block₀ st₀ at₀ out block st at = length list - at
+μ-loop device list out₀ n block₀ st₀ at₀ out block st at = length list - at
 
 start-requires : tie.Need-start-requires Inv-loop μ-loop
 start-requires c κs = search needs
@@ -35,25 +35,25 @@ kind-of-requires : tie.Need-kind-of-requires Inv-loop μ-loop
 kind-of-requires c κs = search needs
 
 placement-of-requires : tie.Need-placement-of-requires Inv-loop μ-loop
-placement-of-requires c κs = ahead-ready true (c .before .before .before .before .before .before .before .args .list .now) (c .before .before .before .before .before .before .before .args .n) (c .before .before .before .loop .st) (c .before .before .before .loop .at) (c .before .before .before .loop .inv .1 .ahead) (omega arith) (c .kind-of .result) (c .kind-of .ensures)
+placement-of-requires c κs = ahead-ready _ true (c .before .before .before .before .before .before .before .args .list .now) (c .before .before .before .before .before .before .before .args .n) (c .before .before .before .loop .st) (c .before .before .before .loop .at) (c .before .before .before .loop .inv .1 .ahead) (omega arith) (c .kind-of .result) (c .kind-of .ensures)
 
 add-body : tie.Need-add-body Inv-loop μ-loop
 add-body c = omega arith
 
 put-argument-requires : tie.Need-put-argument-requires Inv-loop μ-loop
-put-argument-requires c κs = (ahead-fit true (c .before .before .before .before .before .before .before .before .before .args .list .now) (c .before .before .before .before .before .before .before .before .before .args .n) (c .before .before .before .before .before .loop .st) (c .before .before .before .before .before .loop .at) (c .before .before .before .before .before .loop .inv .1 .ahead) (omega arith) (c .before .before .kind-of .result) (c .before .before .kind-of .ensures) _ (c .before .placement-of .ensures) _ (omega (arith, c .before .before .before .before .before .loop .inv .0)), search (fill-body, needs))
+put-argument-requires c κs = (ahead-fit _ true (c .before .before .before .before .before .before .before .before .before .args .list .now) (c .before .before .before .before .before .before .before .before .before .args .n) (c .before .before .before .before .before .loop .st) (c .before .before .before .before .before .loop .at) (c .before .before .before .before .before .loop .inv .1 .ahead) (omega arith) (c .before .before .kind-of .result) (c .before .before .kind-of .ensures) _ (c .before .placement-of .ensures) _ (omega (arith, c .before .before .before .before .before .loop .inv .0)), search (fill-body, needs))
 
 add-at : tie.Need-add-at Inv-loop μ-loop
-add-at c = omega (arith, fill-long (c .before .before .before .before .before .before .before .before .before .before .before .before .before .args .list .now) _ (c .before .before .before .before .before .before .before .before .before .before .before .before .before .pre .0), ahead-ready true (c .before .before .before .before .before .before .before .before .before .before .before .before .before .args .list .now) (c .before .before .before .before .before .before .before .before .before .before .before .before .before .args .n) (c .before .before .before .before .before .before .before .before .before .loop .st) (c .before .before .before .before .before .before .before .before .before .loop .at) (c .before .before .before .before .before .before .before .before .before .loop .inv .1 .ahead) (omega arith) (c .before .before .before .before .before .before .kind-of .result) (c .before .before .before .before .before .before .kind-of .ensures) .small)
+add-at c = omega (arith, fill-long _ (c .before .before .before .before .before .before .before .before .before .before .before .before .before .args .list .now) _ (c .before .before .before .before .before .before .before .before .before .before .before .before .before .pre .0), ahead-ready _ true (c .before .before .before .before .before .before .before .before .before .before .before .before .before .args .list .now) (c .before .before .before .before .before .before .before .before .before .before .before .before .before .args .n) (c .before .before .before .before .before .before .before .before .before .loop .st) (c .before .before .before .before .before .before .before .before .before .loop .at) (c .before .before .before .before .before .before .before .before .before .loop .inv .1 .ahead) (omega arith) (c .before .before .before .before .before .before .kind-of .result) (c .before .before .before .before .before .before .kind-of .ensures) .small)
 
 state-behind-requires : tie.Need-state-behind-requires Inv-loop μ-loop
-state-behind-requires c κs = ahead-placed true (c .before .before .before .before .before .before .before .before .before .before .before .before .before .args .list .now) (c .before .before .before .before .before .before .before .before .before .before .before .before .before .args .n) (c .before .before .before .before .before .before .before .before .before .loop .st) (c .before .before .before .before .before .before .before .before .before .loop .at) (c .before .before .before .before .before .before .before .before .before .loop .inv .1 .ahead) (omega arith) (c .before .before .before .before .before .before .kind-of .result) (c .before .before .before .before .before .before .kind-of .ensures) _ (c .before .before .before .before .before .placement-of .ensures)
+state-behind-requires c κs = ahead-placed _ true (c .before .before .before .before .before .before .before .before .before .before .before .before .before .args .list .now) (c .before .before .before .before .before .before .before .before .before .before .before .before .before .args .n) (c .before .before .before .before .before .before .before .before .before .loop .st) (c .before .before .before .before .before .before .before .before .before .loop .at) (c .before .before .before .before .before .before .before .before .before .loop .inv .1 .ahead) (omega arith) (c .before .before .before .before .before .before .kind-of .result) (c .before .before .before .before .before .before .kind-of .ensures) _ (c .before .before .before .before .before .placement-of .ensures)
 
 loop-less : tie.Need-loop-less Inv-loop μ-loop
 loop-less c = search (fill-less, needs)
 
 loop-again : tie.Need-loop-again Inv-loop μ-loop
-loop-again c = (search needs, fill-turn (c .before .before .before .before .before .before .before .before .before .before .before .before .before .before .args .list .now) (c .before .before .before .before .before .before .before .before .before .before .before .before .before .before .args .n) _ (c .before .before .before .before .before .before .before .before .before .before .loop .st) (c .before .before .before .before .before .before .before .before .before .before .loop .at) _ (c .before .before .before .before .before .before .before .before .before .before .loop .inv .1) (omega arith) (c .before .before .before .before .before .before .before .kind-of .result) (c .before .before .before .before .before .before .before .kind-of .ensures) _ (c .before .before .before .before .before .before .placement-of .ensures) _ _ (c .state-behind .ensures) (c .before .before .before .before .put-argument .ensures))
+loop-again c = (search needs, fill-turn _ (c .before .before .before .before .before .before .before .before .before .before .before .before .before .before .args .list .now) (c .before .before .before .before .before .before .before .before .before .before .before .before .before .before .args .n) _ (c .before .before .before .before .before .before .before .before .before .before .loop .st) (c .before .before .before .before .before .before .before .before .before .before .loop .at) _ (c .before .before .before .before .before .before .before .before .before .before .loop .inv .1) (omega arith) (c .before .before .before .before .before .before .before .kind-of .result) (c .before .before .before .before .before .before .before .kind-of .ensures) _ (c .before .before .before .before .before .before .placement-of .ensures) _ _ (c .state-behind .ensures) (c .before .before .before .before .put-argument .ensures))
 
 same-length : tie.Need-same-length Inv-loop μ-loop
 same-length c = c .before .loop .inv .0

@@ -18,7 +18,7 @@ same-length : tie.Need-same-length
 same-length c = search needs
 
 returns : tie.Need-returns
-returns c = laid _ _ _ (c .before .before .before .before .before .before .before .before .before .before .before .before .before .before .pre .0) _ _ _ (c .before .before .before .before .before .before .before .before .before .before .clear .ensures) (c .before .before .before .before .before .before .fill .ensures) (c .before .before .write-block .ensures)
+returns c = laid _ _ _ _ (c .before .before .before .before .before .before .before .before .before .before .before .before .before .before .pre .0) _ _ _ (c .before .before .before .before .before .before .before .before .before .before .clear .ensures) (c .before .before .before .before .before .before .fill .ensures) (c .before .before .write-block .ensures)
 
 pub lay-spec : {M : Type 1} → statement M
 lay-spec = tie.close (tie.spec clear-requires fill-requires write-block-requires same-length returns)
