@@ -143,7 +143,7 @@
  *
  * From $sp upward a frame holds
  *
- *   the argument build area   outgoing rounded up to 8, 16 or more; 0 in a leaf
+ *   the argument build area   outgoing rounded up to 8, at least 16; 0 in a leaf
  *   the floating save area    8 bytes for each pair
  *   the general save area     4 bytes for each register, rounded up to 8
  *   the locals

@@ -7,6 +7,7 @@
 
 #include "o32.h"
 
+#include <inttypes.h>
 #include <stdio.h>
 #include <stdlib.h>
 #include <string.h>
@@ -262,49 +263,54 @@ static void check_reading(uint32_t device, const uint32_t *words,
     free(signature);
 }
 
-/* Any number but O32_FPU is a device without a floating-point unit. */
-static void devices(void)
+/* What a device without a floating-point unit answers. */
+static void no_unit(uint32_t device)
 {
-    static const uint32_t with_unit[14] = {
-        0, 0, 0, 0, 0x05060708, 0x01020304, 0x11121314, 0,
-        0, 0, 0, 0, 0x21222324, 0x25262728};
-    static const uint32_t without_unit[14] = {
+    static const uint32_t words[14] = {
         0x01020304, 0x05060708, 0x11121314, 0, 0, 0, 0, 0,
         0, 0, 0, 0, 0x21222324, 0x25262728};
-    const uint32_t other = UINT32_C(0xFFFFFFFF);
     const uint32_t general = UINT32_C(1) << 31;
 
-    check_floats(O32_FPU, with_unit,
-                 "with a unit two floats are in $f12 to $f14, the third at 16");
-    check_floats(O32_NO_FPU, without_unit,
-                 "without one they are in $4, $5 and $6, the third at 16");
-    check_floats(other, without_unit, "any other device has no unit");
-    check_reading(O32_NO_FPU, without_unit,
-                  "without a unit the floating words are ignored");
-    check_reading(other, without_unit, "on any other device too");
-
-    check(o32_frame(O32_FPU, 0, 0, 0, general, 1).refusal == 0,
-          "a frame with a unit may save a pair");
-    check(is_refused(o32_frame(O32_NO_FPU, 0, 0, 0, general, 1),
+    printf("device %08" PRIX32 "\n", device);
+    check_floats(device, words,
+                 "two floats are in $4, $5 and $6, the third at 16");
+    check_reading(device, words, "the floating words are ignored");
+    check(is_refused(o32_frame(device, 0, 0, 0, general, 1),
+                     O32_PAIRS_WITHOUT_UNIT),
+          "a frame may not save a pair");
+    check(is_refused(o32_frame(device, 0, 0, 0, 0, 63),
                      O32_PAIRS_WITHOUT_UNIT) &&
-              is_refused(o32_frame(other, 0, 0, 0, general, 1),
-                         O32_PAIRS_WITHOUT_UNIT),
-          "without a unit it may not");
-    check(is_refused(o32_frame(O32_NO_FPU, 0, 0, 0, 0, 63),
-                     O32_PAIRS_WITHOUT_UNIT) &&
-              is_refused(o32_frame(O32_NO_FPU, 0, 0, 0, 0, 64), O32_MASKS),
+              is_refused(o32_frame(device, 0, 0, 0, 0, 64), O32_MASKS),
           "which is refused before $31 is asked for, and behind a wrong mask");
 
     uint8_t *code = buffer(O32_EPILOGUE_MAX);
-    check(is_answer(o32_prologue(O32_NO_FPU, 0, 0, 0, general, 1, code,
+    check(is_answer(o32_prologue(device, 0, 0, 0, general, 1, code,
                                  O32_EPILOGUE_MAX),
                     O32_PAIRS_WITHOUT_UNIT, 0, 0) &&
-              is_answer(o32_epilogue(O32_NO_FPU, 0, 0, 0, general, 1, code,
+              is_answer(o32_epilogue(device, 0, 0, 0, general, 1, code,
                                      O32_EPILOGUE_MAX),
                         O32_PAIRS_WITHOUT_UNIT, 0, 0) &&
               all_are(code, O32_EPILOGUE_MAX, 0xA5),
           "nor is there a prologue or an epilogue, the code buffer stays");
     free(code);
+}
+
+/* Any number but O32_FPU is a device without a floating-point unit. */
+static void devices(void)
+{
+    static const uint32_t words[14] = {
+        0, 0, 0, 0, 0x05060708, 0x01020304, 0x11121314, 0,
+        0, 0, 0, 0, 0x21222324, 0x25262728};
+    const uint32_t general = UINT32_C(1) << 31;
+
+    check_floats(O32_FPU, words,
+                 "with a unit two floats are in $f12 to $f14, the third at 16");
+    check(o32_frame(O32_FPU, 0, 0, 0, general, 1).refusal == 0,
+          "a frame with a unit may save a pair");
+    no_unit(O32_NO_FPU);
+    no_unit(UINT32_C(0x100));
+    no_unit(UINT32_C(0x80000000));
+    no_unit(UINT32_C(0xFFFFFFFF));
 }
 
 int main(void)

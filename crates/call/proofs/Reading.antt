@@ -60,9 +60,8 @@ pub record Found (d : Device) (sig img : List ℕ) (n : ℕ) : Type 0 where
   pub readable : Readable d sig img
   pub long : n ≡ length (reading (readable .placed) img)
 
-pub found : (d : Device) (sig img : List ℕ) (n last-end m : ℕ) → ((x : Device) → M.Accepted n last-end ≡ measured (plan (O32 x) false sig)) → m ≡ 32 + area last-end → length img ≡ m
-    → Found d sig img n
-found d sig img n last-end m e g l = go (plan (O32 d) false sig) refl (e d)
+pub found : (d : Device) (sig img : List ℕ) (n last-end m : ℕ) → M.Accepted n last-end ≡ measured (plan (O32 d) false sig) → m ≡ 32 + area last-end → length img ≡ m → Found d sig img n
+found d sig img n last-end m e g l = go (plan (O32 d) false sig) refl e
   where
     go : (q : Plan State) → plan (O32 d) false sig ≡ q → M.Accepted n last-end ≡ measured q → Found d sig img n
     go (bad r at) f h = let z : _≡_ {A = ℕ} 0 1 = cc in absurd (omega arith)
@@ -154,9 +153,9 @@ passes L img at y x e = subst (λ (a : C.Answer). Passed L img a y) e (checked-p
 pub read-is : (d : Device) (sig img x : List ℕ) (room : ℕ) → (readInto d sig img room ≡ C.done x) ↔ ((read (O32 d) sig img ≡ C.done x) × (length x ≤ room))
 read-is d sig img x room = go (plan (O32 d) false sig)
   where
-    go : (q : Plan State) → (readWith d img room q ≡ C.done x) ↔ ((readUnder (O32 d) img q ≡ C.done x) × (length x ≤ room))
+    go : (q : Plan State) → (readWith img room q ≡ C.done x) ↔ ((readUnder (O32 d) img q ≡ C.done x) × (length x ≤ room))
     go (bad r at) = ((λ e. let z : _≡_ {A = ℕ} 0 1 = cc in absurd (omega arith)), λ h. h .0)
-    go (good L st) = tests (eqb (length img) (O32 d .imageLength st)) (ltb room (length (reading L img))) refl
+    go (good L st) = tests (eqb (length img) (32 + area (st .end))) (ltb room (length (reading L img))) refl
       where
         tests : (t u : Bool) → ltb room (length (reading L img)) ≡ u
             → (cond t (cond u (C.refused 7 0) (C.checked 0 L img (C.done (reading L img)))) (C.refused 6 0) ≡ C.done x)

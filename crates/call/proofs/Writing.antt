@@ -26,10 +26,9 @@ use Rattle.writer.specs.Filling.{Fillable, imageIn}
 use Rattle.answers.specs.Answers.{answerOf, bufferOf, within}
 use Rattle.call.specs.Answers.{writeInto}
 
--- the first pass has found an image's length, which is the same on every device
-pub fillable : (d : Device) (list : List ℕ) (long end n : ℕ) → ((x : Device) → M.Accepted long end ≡ measured (plan (O32 x) true list)) → n ≡ 32 + area end
-    → Fillable d list n
-fillable d list long end n e g = go (plan (O32 d) true list) refl (e d)
+-- the first pass has found an image's length
+pub fillable : (d : Device) (list : List ℕ) (long end n : ℕ) → M.Accepted long end ≡ measured (plan (O32 d) true list) → n ≡ 32 + area end → Fillable d list n
+fillable d list long end n e g = go (plan (O32 d) true list) refl e
   where
     go : (q : Plan State) → plan (O32 d) true list ≡ q → M.Accepted long end ≡ measured q → Fillable d list n
     go (bad r at) f h = let z : _≡_ {A = ℕ} 0 1 = cc in absurd (omega arith)

@@ -58,8 +58,8 @@ fn improper(found: Checked) -> Answer
     }
 }
 
-// The list of an image under a signature, for a device. Refusals 1, 2, 3 and 5 by record, then 6, 7, 8; no byte is stored before all are
-// decided.
+// The list of an image under a signature, for a device. Refusals 1, 2, 3 and 5 by record, then 6, 7, 8; no byte is stored before
+// all are decided.
 pub fn read(device: Device, signature: &[u8], image: &[u8], out: &mut [u8]) -> Answer
     ensures answer { λ r. ⌜ r ≡ answerOf (readInto device (now (signature .entry)) (now (image .entry)) (length (now (out .entry)))) ⌝ }
     ensures buffer { λ _. ⌜ now (out .exit) ≡ bufferOf (readInto device (now (signature .entry)) (now (image .entry)) (length (now (out .entry)))) (now (out .entry)) ⌝ }

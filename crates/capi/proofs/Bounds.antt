@@ -1,6 +1,6 @@
--- The place and the length of every answer are at most 1,057, so they are 32-bit numbers.
+-- The place and the length of every answer are at most 1,057, so they are 32-bit numbers; and so C gets the answer itself.
 -- Assumes nothing.
-use mathlib.Core.Path.{_≡_, refl, _∙_}
+use mathlib.Core.Path.{_≡_, refl, ap, _∙_}
 use mathlib.Core.List.{List, [], _∷_}
 use mathlib.Core.Bool.{Bool, true, false, cond}
 use Prim.Native.Nat.{ℕ, suc, _+_, _≤_}
@@ -21,12 +21,14 @@ use Rattle.o32.specs.O32.{O32, area}
 use Rattle.placement.proofs.Laws.{O32-laws}
 use Rattle.placement.proofs.Bounds.{place-bound, plan-bound}
 use Rattle.answers.specs.declared.Answer.{Answer}
-use Rattle.answers.specs.Answers.{answerOf, within}
+use Rattle.answers.specs.Answers.{answerOf, bufferOf, within}
 use Rattle.call.specs.Answers.{readWith, writeInto, readInto}
 use Rattle.saves.specs.declared.Request.{Request}
 use Rattle.saves.specs.Frame.{refusalOf, frameOf}
 use Rattle.saves.specs.Words.{prologueWords, epilogueWords, bytesOfWords}
 use Rattle.frame.specs.Code.{codeInto, prologueInto, epilogueInto}
+use Rattle.capi.specs.declared.O32Answer.{O32Answer}
+use Rattle.capi.specs.Numbers.{narrow}
 use Rattle.frame.proofs.Bytes.{length-saves, small, prologue-none, prologue-length, epilogue-length}
 
 -- of an answer as the code hands it on, and as the definitions give it
@@ -83,9 +85,9 @@ reading-length : (d : Device) (sig img : List ℕ) (L : List Placed) (last : Sta
 reading-length d sig img L last e =
     plan-bound d true (reading L img) L last (plan-reading (O32 d) (O32-laws d) (walk-of (O32 d) (O32-laws d) sig (O32 d .start) L last 0 e) img 0) .long
 
-read-bounded : (d : Device) (sig img : List ℕ) (room : ℕ) (q : Plan State) → plan (O32 d) false sig ≡ q → Bounded (readWith d img room q)
+read-bounded : (d : Device) (sig img : List ℕ) (room : ℕ) (q : Plan State) → plan (O32 d) false sig ≡ q → Bounded (readWith img room q)
 read-bounded d sig img room (bad r at) e = place-bound d false sig r at e
-read-bounded d sig img room (good L last) e = go (eqb (length img) (O32 d .imageLength last)) (ltb room (length (reading L img)))
+read-bounded d sig img room (good L last) e = go (eqb (length img) (32 + area (last .end))) (ltb room (length (reading L img)))
   where
     go : (t u : Bool) → Bounded (cond t (cond u (C.refused 7 0) (C.checked 0 L img (C.done (reading L img)))) (C.refused 6 0))
     go true true = omega arith
@@ -122,3 +124,9 @@ prologue-fits d r room e = fits (prologueInto d r room) (code-bounded d r (prolo
 
 pub epilogue-fits : {a : Answer} (d : Device) (r : Request) (room : ℕ) → a ≡ answerOf (epilogueInto d r room) → Fits a
 epilogue-fits d r room e = fits (epilogueInto d r room) (code-bounded d r (epilogueWords r) room (epilogue-bound d r)) e
+
+-- ---- what C gets, and what stands in its buffer, where the function was called with what C's numbers say
+
+pub handed : {A : Type 0} (into : A → C.Answer) (buf : List ℕ) {x y : A} {a : Answer} {r : O32Answer} {o : List ℕ} → x ≡ y → r ≡ narrow a
+    → a ≡ answerOf (into x) → o ≡ bufferOf (into x) buf → (r ≡ narrow (answerOf (into y))) × (o ≡ bufferOf (into y) buf)
+handed {A} into buf e f g h = (f ∙ ap narrow (g ∙ ap (λ (x : A). answerOf (into x)) e), h ∙ ap (λ (x : A). bufferOf (into x) buf) e)

@@ -9,6 +9,7 @@
 // ROOM is a decimal number, at most 4,096. LIST, SIGNATURE and IMAGE are at most 4,096 bytes, each a pair of hex digits, with
 // spaces between them or none. Behind a pair, *N makes N equal bytes of it, and +N makes N bytes that count up from it. Of the
 // words write and read the first letter decides, behind an n the next one. A line that has another form is answered "malformed".
+// Of the text the first 131,072 bytes are read.
 //
 // The answer is the refusal, or the bytes that were written, 16 to a line; then their number, and whether every other byte of
 // the buffer is kept.
@@ -86,7 +87,7 @@ fn run(line: &[u8])
 }
 
 fn main() {
-    let mut text = io::large_buffer();
+    let mut text = [0u8; 131072];
     let n = io::read_full(STDIN_FILENO, &mut text);
     let mut at = 0;
     while at < n {

@@ -1,6 +1,6 @@
 // The devices. There is no code here.
 
-// The board that a call is for, by what rule 3 and the saved pairs of a frame need. The caller names it on every call.
+// The board that a call or a frame is for. Rule 3 and the pairs that a frame saves depend on it.
 pub enum Device {
     // with a floating-point unit
     Fpu,

@@ -7,7 +7,7 @@ ghost use lib.ListN.{length};
 ghost use lib.Seq.{sets};
 ghost use Rattle.words.specs.Words.{up};
 ghost use Rattle.answers.specs.Answers.{answerOf, bufferOf};
-ghost use Rattle.saves.specs.Frame.{buildFor, floatingAt, generalAt, layoutOf, outside, overfull, refusalOf, unreturning, withoutUnit};
+ghost use Rattle.saves.specs.Frame.{buildFor, floatingAt, generalAt, layoutOf, outside, overfull, refusalOf, unreturning, pairsWithoutUnit};
 ghost use Rattle.saves.specs.Words.{bytesOfWords, savesOf, slotFor, wordOf};
 ghost use Rattle.frame.specs.Code.{epilogueInto, prologueInto};
 use answers::Answer;
@@ -27,8 +27,8 @@ fn is_outside(request: Request) -> bool
 }
 
 // Refusal 14: pairs to save on a device without a floating-point unit.
-fn is_without_unit(device: Device, request: Request) -> bool
-    ensures { λ r. ⌜ r ≡ withoutUnit device request ⌝ }
+fn has_pairs_without_unit(device: Device, request: Request) -> bool
+    ensures { λ r. ⌜ r ≡ pairsWithoutUnit device request ⌝ }
 {
     let Device::NoFpu = device else {
         return false;
@@ -64,7 +64,7 @@ fn refusal(device: Device, request: Request) -> u32
     ensures { λ r. ⌜ r ≡ refusalOf device request ⌝ }
 {
     let outside = is_outside(request);
-    let without_unit = is_without_unit(device, request);
+    let without_unit = has_pairs_without_unit(device, request);
     let unreturning = is_unreturning(request);
     let overfull = is_overfull(request);
     if outside {
@@ -134,7 +134,7 @@ pub fn layout_of(device: Device, request: Request) -> Layout
     }
 }
 
-// The bytes of one instruction for each register that a request names, two for a pair, where its masks name no other.
+// The bytes of one instruction for each register that a request names, two for a pair; its masks are not refused 9.
 fn saves_length(request: Request) -> usize
     requires { ⌜ outside request ≡ false ⌝ }
     ensures { λ r. ⌜ (r ≡ 4 * length (savesOf request)) × (r ≤ 88) ⌝ }

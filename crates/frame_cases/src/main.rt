@@ -6,7 +6,8 @@
 //     nframe ROOM, REQUEST    the same without a floating-point unit
 //
 // ROOM is a decimal number, at most 4,096. REQUEST is five words of eight hex digits: leaf (0 is no), bytes of locals, bytes of
-// outgoing arguments, general mask, pair mask. A line without a room or without 20 bytes of request is answered "malformed".
+// outgoing arguments, general mask, pair mask. Of the words frame and nframe only an n in front is looked at. A line without a room
+// or without 20 bytes of request is answered "malformed". Of the text the first 16,384 bytes are read.
 //
 // The answer is the layout's numbers, F and B first, then for prologue and epilogue the refusal, or the words that were
 // written; their length in bytes, and whether every other byte of the buffer is kept.

@@ -1,9 +1,11 @@
 // The lines of a text of cases: numbers and bytes in them, and what is printed below them.
-ghost use mathlib.Core.Bool.{true};
+ghost use mathlib.Core.Bool.{cond, true};
 ghost use mathlib.Core.Logic.{_⊎_};
 ghost use mathlib.Core.Path.{_≡_};
 ghost use Prim.Native.Nat.{_+_, _<_, _≤_};
-ghost use lib.ListN.{length};
+ghost use lib.Dec.{eqb};
+ghost use lib.ListN.{getD, length};
+ghost use Rattle.device.specs.declared.Device.the-variants.{Fpu, NoFpu};
 use answers::Answer;
 use device::Device;
 use libc::STDOUT_FILENO;
@@ -258,6 +260,7 @@ pub fn is_case(line: &[u8]) -> bool
 // The device of a case: a word with an n before it names the one without a floating-point unit.
 pub fn device_of(line: &[u8]) -> Device
     requires { ⌜ 1 ≤ length (now line) ⌝ }
+    ensures { λ r. ⌜ r ≡ cond (eqb (getD (now (line .entry)) 0 0) 110) NoFpu Fpu ⌝ }
 {
     if line[0] == b'n' {
         Device::NoFpu

@@ -14,7 +14,7 @@ use Rattle.carried.proofs.Records.{onFrom, finished, stopped, within, passed}
 use Rattle.o32.specs.declared.Kind.{Kind}
 use Rattle.o32.specs.declared.State.{State}
 use Rattle.o32.specs.Kinds.{kindOf}
-use Rattle.o32.specs.O32.{O32, onward, placement}
+use Rattle.o32.specs.O32.{O32, onward, placement, start}
 use Rattle.placement.proofs.KindFacts.{kind-sound}
 use Rattle.placement.proofs.Bounds.{Grown, Grows, grows, Held, held-starts, held-on, held-place}
 use Rattle.records.specs.declared.Record.{Record}
@@ -44,11 +44,11 @@ pub record Walking (bodies : Bool) (list : List ℕ) (st : State) (n at : ℕ) :
   pub ahead : (d : Device) → measured (plan (O32 d) bodies list) ≡ further n (measured (onFrom (O32 d) bodies list at st))
   pub held : Held n 0 st
 
-pub walk-starts : (bodies : Bool) (list : List ℕ) (st : State) → ((d : Device) → st ≡ O32 d .start) → Walking bodies list st 0 0
+pub walk-starts : (bodies : Bool) (list : List ℕ) (st : State) → st ≡ start → Walking bodies list st 0 0
 walk-starts bodies list st e = record {
   inside = omega arith;
-  ahead = λ d. rw (e d) (sym (further-none (measured (plan (O32 d) bodies list))));
-  held = rw (e Fpu) (held-starts Fpu);
+  ahead = λ d. rw e (sym (further-none (measured (plan (O32 d) bodies list))));
+  held = rw e held-starts;
 }
 
 pub walk-ends : (bodies : Bool) (list : List ℕ) (st : State) (n at : ℕ) → Walking bodies list st n at → length list ≤ at → (d : Device) → M.Accepted n (st .end) ≡ measured (plan (O32 d) bodies list)
@@ -71,7 +71,7 @@ module _ (bodies : Bool) (list : List ℕ) (st : State) (n at : ℕ) (w : Walkin
     here : (d : Device) → Took d bodies (length list - (at + 1)) st k kd st′
     here d = took d bodies st k (length list - (at + 1)) kd st′ (sym g ∙ e d)
 
-    -- what no device decides is told by one
+    -- what is the same on every device, taken from one
     one : Took Fpu bodies (length list - (at + 1)) st k kd st′
     one = here Fpu
 

@@ -1,5 +1,5 @@
--- The twelve bench cases that are to be proved, and request (ii)'s of document 02: one table, one theorem, by computation. And the
--- edges, likewise.
+-- The twelve bench cases that are to be proved, and the case of request (ii) of document 02: one table, one theorem, by
+-- computation. And the edges, likewise.
 -- Assumes nothing.
 use mathlib.Core.List.{List, [], _∷_, _++_}
 use mathlib.Core.Bool.{Bool, true, false, _&&_}

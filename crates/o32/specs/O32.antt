@@ -92,12 +92,16 @@ stepped d st k =
     (cond (full st k) (refuse 3)
     (next (placement d st k) (onward st k))))
 
+-- The state before the first record.
+abbrev pub start : State
+start = record { end = 0; count = 0; pointer = false; floating = false; marked = false }
+
 -- The convention on a device: only rule 3 looks at it. "The end may be at most 1,024" (rule 5, refusal 5). "Its length is 32 + A".
 abbrev pub O32 : Device → Convention
 O32 d = record {
   State = State;
   Placement = Placement;
-  start = record { end = 0; count = 0; pointer = false; floating = false; marked = false };
+  start = start;
   step = λ st k. stepped d st (kindOf k);
   placedAt = λ k p. record { kind = k; size = p .kind .size; extension = extension (p .kind); carriers = carriers p };
   fits = λ st. leb (st .end) 1024;

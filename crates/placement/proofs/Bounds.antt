@@ -18,7 +18,7 @@ use Rattle.o32.specs.declared.State.{State}
 use Rattle.o32.specs.declared.Placement.{Placement}
 use Rattle.o32.specs.Kinds.{kindOf, is}
 use Rattle.o32.specs.Offsets.{width}
-use Rattle.o32.specs.O32.{misplaced, full, onward, placement, stepped, O32}
+use Rattle.o32.specs.O32.{misplaced, full, onward, placement, stepped, start, O32}
 use Rattle.placement.proofs.KindFacts.{Sound, kind-sound}
 use Rattle.placement.proofs.Laws.{up-ge}
 
@@ -92,8 +92,8 @@ pub record Held (at n : ℕ) (st : State) : Type 0 where
   pub fits : st .end ≤ 1024
   few : st .count ≤ 32
 
-pub held-starts : (d : Device) → Held 0 0 (O32 d .start)
-held-starts d = record { before = omega arith; fits = omega arith; few = omega arith }
+pub held-starts : Held 0 0 start
+held-starts = record { before = omega arith; fits = omega arith; few = omega arith }
 
 -- a record that is placed passes on what holds, to any byte of it and behind it
 pub held-on : {at : ℕ} {st st′ : State} {k : Kind} {p : Placement} → Held at 0 st → Grown st k p st′ → st′ .end ≤ 1024 → (a b : ℕ) → a + b ≤ at + 1 + k .size → Held a b st′
@@ -154,7 +154,7 @@ reaches d bodies (k ∷ l) at zero st h = go (O32 d .step st k) (grows d st (kin
 
 module _ (d : Device) (bodies : Bool) (l : List ℕ) where
   planned : Reaches (0 + length l) (plan (O32 d) bodies l)
-  planned = reaches d bodies l 0 0 (O32 d .start) (held-starts d)
+  planned = reaches d bodies l 0 0 start held-starts
 
   pub place-bound : (r p : ℕ) → plan (O32 d) bodies l ≡ bad r p → p ≤ 1057
   place-bound r p e = subst (Reaches (0 + length l)) e planned

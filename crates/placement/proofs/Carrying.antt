@@ -13,20 +13,22 @@ use lib.Dec.{eqb}
 use borrow.Author.Tests.{lt-ltb, le-ltb, ne-eqb, eqb-true}
 use Rattle.device.specs.declared.Device.{Device}
 use Rattle.device.specs.declared.Device.the-variants.{Fpu, NoFpu}
-use Rattle.carried.specs.Image.{Placed}
+use Rattle.carried.specs.Image.{Placed, carried}
 use Rattle.carried.specs.Convention.{good, plan}
-use Rattle.carried.proofs.Walks.{Walk, one, walk-of}
+use Rattle.carried.specs.Demand.{In}
+use Rattle.carried.proofs.Places.{in-cases}
+use Rattle.carried.proofs.Walks.{Walk, end, one, walk-of}
 use Rattle.o32.specs.declared.Class.the-variants.{Marker, Float}
 use Rattle.o32.specs.declared.Kind.{Kind}
 use Rattle.o32.specs.declared.State.{State}
 use Rattle.o32.specs.declared.Placement.{Placement}
 use Rattle.o32.specs.Kinds.{kindOf, is, classNumber}
 use Rattle.o32.specs.Offsets.{width, offset, ending}
-use Rattle.o32.specs.O32.{floatRegister, register, run, floatRegisters, registerBytes, floatBytes, carrier, carriers, misplaced, onward, placement, O32}
+use Rattle.o32.specs.O32.{floatRegister, register, run, floatRegisters, registerBytes, floatBytes, carrier, carriers, misplaced, onward, placement, start, O32}
 use Rattle.placement.specs.Carrying.{endOf, registerBehind, CarriedAt}
 use Rattle.placement.proofs.KindFacts.{kind-sound}
 use Rattle.placement.proofs.Steps.{Stepped, Says, says}
-use Rattle.placement.proofs.Laws.{O32-laws, length-span, length-float}
+use Rattle.placement.proofs.Laws.{O32-laws, span-outside, length-span, length-float}
 
 -- ---- the state behind some kinds
 
@@ -106,8 +108,8 @@ placed-so d (j ∷ before) st k behind L last w (m ∷ M) s N e h =
 
 -- ---- rule 3 by the kinds before
 
-no-marker-first : (d : Device) (k : Kind) → misplaced (O32 d .start) k ≡ false → is Marker k ≡ false
-no-marker-first d k h = go (is Marker k) refl
+no-marker-first : (k : Kind) → misplaced start k ≡ false → is Marker k ≡ false
+no-marker-first k h = go (is Marker k) refl
   where
     go : (t : Bool) → is Marker k ≡ t → is Marker k ≡ false
     go false e = e
@@ -118,26 +120,26 @@ none true = refl
 none false = refl
 
 register-so : (d : Device) (before : List ℕ) (k : ℕ) (behind : List ℕ) (L : List Placed) (last : State)
-    → Walk (O32 d) (O32-laws d) (O32 d .start) (before ++ (k ∷ behind)) L last → register d (reach (O32 d .start) before) (kindOf k) ≡ registerBehind d before k
+    → Walk (O32 d) (O32-laws d) start (before ++ (k ∷ behind)) L last → register d (reach start before) (kindOf k) ≡ registerBehind d before k
 register-so NoFpu before k behind L last w = none (is Float (kindOf k))
 register-so Fpu [] k behind L last w = refl
 register-so Fpu (j ∷ []) k behind L last w =
-    let n : is Marker (kindOf j) ≡ false = no-marker-first Fpu (kindOf j) (first {d = Fpu} w .stepped-so .rightly) in
+    let n : is Marker (kindOf j) ≡ false = no-marker-first (kindOf j) (first {d = Fpu} w .stepped-so .rightly) in
     go n (is Float (kindOf j)) (is Float (kindOf k)) refl refl
   where
     go : is Marker (kindOf j) ≡ false → (t u : Bool) → is Float (kindOf j) ≡ t → is Float (kindOf k) ≡ u
-        → register Fpu (onward (O32 Fpu .start) (kindOf j)) (kindOf k) ≡ cond (is Float (kindOf j) && is Float (kindOf k)) 14 0
+        → register Fpu (onward start (kindOf j)) (kindOf k) ≡ cond (is Float (kindOf j) && is Float (kindOf k)) 14 0
     go n true true d e = rw (n, d, e)
     go n true false d e = rw (n, d, e)
     go n false true d e = rw (n, d, e)
     go n false false d e = rw (n, d, e)
 register-so Fpu (j ∷ i ∷ js) k behind L last w =
-    let n : is Marker (kindOf j) ≡ false = no-marker-first Fpu (kindOf j) (first {d = Fpu} w .stepped-so .rightly) in
-    let z : floatRegister Fpu (reach (O32 Fpu .start) (j ∷ i ∷ js)) ≡ 0 =
-    late-register (reach (O32 Fpu .start) (j ∷ i ∷ js)) (late-reach js (onward (onward (O32 Fpu .start) (kindOf j)) (kindOf i)) (go n (is Marker (kindOf i)) refl)) in
+    let n : is Marker (kindOf j) ≡ false = no-marker-first (kindOf j) (first {d = Fpu} w .stepped-so .rightly) in
+    let z : floatRegister Fpu (reach start (j ∷ i ∷ js)) ≡ 0 =
+    late-register (reach start (j ∷ i ∷ js)) (late-reach js (onward (onward start (kindOf j)) (kindOf i)) (go n (is Marker (kindOf i)) refl)) in
     ap (λ (f : ℕ). cond (is Float (kindOf k)) f 0) z ∙ none (is Float (kindOf k))
   where
-    go : is Marker (kindOf j) ≡ false → (t : Bool) → is Marker (kindOf i) ≡ t → Late (onward (onward (O32 Fpu .start) (kindOf j)) (kindOf i))
+    go : is Marker (kindOf j) ≡ false → (t : Bool) → is Marker (kindOf i) ≡ t → Late (onward (onward start (kindOf j)) (kindOf i))
     go n true e = inr (rw (e, n) (omega arith, refl))
     go n false e = inl (rw (e, n) (omega arith))
 
@@ -235,7 +237,23 @@ module _ (d : Device) (before : List ℕ) (k : ℕ) (s : Placed)
 pub carried-at : (d : Device) (before : List ℕ) (k : ℕ) (behind : List ℕ) (L : List Placed) (last : State) → plan (O32 d) false (before ++ (k ∷ behind)) ≡ good L last
     → (M : List Placed) (s : Placed) (N : List Placed) → L ≡ M ++ (s ∷ N) → length M ≡ length before → CarriedAt d before k s
 carried-at d before k behind L last ok M s N e h =
-    let w : Walk (O32 d) (O32-laws d) (O32 d .start) (before ++ (k ∷ behind)) L last = walk-of (O32 d) (O32-laws d) (before ++ (k ∷ behind)) (O32 d .start) L last 0 ok in
+    let w : Walk (O32 d) (O32-laws d) start (before ++ (k ∷ behind)) L last = walk-of (O32 d) (O32-laws d) (before ++ (k ∷ behind)) start L last 0 ok in
     law d before k s
-    (placed-so d before (O32 d .start) k behind L last w M s N e h
-    ∙ rw (reach-end before (O32 d .start), register-so d before k behind L last w))
+    (placed-so d before start k behind L last w M s N e h
+    ∙ rw (reach-end before start, register-so d before k behind L last w))
+
+-- ---- without a floating-point unit
+
+outside : {st last : State} {ks : List ℕ} {L : List Placed} → Walk (O32 NoFpu) (O32-laws NoFpu) st ks L last → (p : ℕ) → In p (carried L) → (p < 16) ⊎ (48 ≤ p)
+outside end p m = absurd m
+outside (one {st = st} {st′ = st′} {k = k} {p = place} {L = L} e f w) p m = in-cases (carriers place) (carried L) p m
+    (λ i.
+    let s : Stepped NoFpu st (kindOf k) place st′ = subst (Says NoFpu st (kindOf k)) e (says NoFpu st (kindOf k)) in
+    let q : carriers place ≡ map carrier (run (offset (kindOf k) (st .end)) (width (kindOf k))) = ap carriers (s .at) ∙ rw (none (is Float (kindOf k))) in
+    span-outside (width (kindOf k)) (offset (kindOf k) (st .end)) p (subst (In p) q i))
+    (λ i. outside w p i)
+
+-- "no floating register is used and those four image words carry nothing": bytes 16 to 31. (The homes, 32 to 47, carry nothing on any
+-- device.)
+pub floats-carry-nothing : (sig : List ℕ) (L : List Placed) (last : State) → plan (O32 NoFpu) false sig ≡ good L last → (p : ℕ) → In p (carried L) → (p < 16) ⊎ (48 ≤ p)
+floats-carry-nothing sig L last ok = outside (walk-of (O32 NoFpu) (O32-laws NoFpu) sig start L last 0 ok)

@@ -1,5 +1,5 @@
--- What each step of O32 gives, on every device: the image bytes of a record are new and inside the image. So the carried-bytes theorem
--- holds of it.
+-- What each step of O32 gives, on every device: the image bytes of a record are new and inside the image. So the carried-bytes
+-- theorem holds of it.
 -- Assumes nothing.
 use mathlib.Core.Path.{_≡_, refl, sym, ap, _∙_, subst}
 use mathlib.Core.Logic.{_⊎_, inl, inr}
@@ -104,6 +104,10 @@ span-at : (n o p : ℕ) → In p (span o n) → Between o (o + n) p
 span-at zero o p m = absurd m
 span-at (suc n) o p (inl e) = between-mono o o (suc o) (o + suc n) p (omega arith) (omega arith) (carrier-at o p e)
 span-at (suc n) o p (inr m) = between-mono o (suc o) (suc o + n) (o + suc n) p (omega arith) (omega arith) (span-at n (suc o) p m)
+
+-- in $4 to $7, or behind the homes
+pub span-outside : (n o p : ℕ) → In p (span o n) → (p < 16) ⊎ (48 ≤ p)
+span-outside n o p m = elim (span-at n o p m .from) [ inl x ↦ inl (x .1) | inr x ↦ inr (x .1) ]
 
 span-distinct : (n o : ℕ) → Distinct (span o n)
 span-distinct zero o = tt

@@ -18,7 +18,7 @@ use Rattle.o32.specs.declared.State.{State}
 use Rattle.o32.specs.declared.Placement.{Placement}
 use Rattle.o32.specs.Kinds.{kindOf}
 use Rattle.o32.specs.Offsets.{extension}
-use Rattle.o32.specs.O32.{O32, carriers, onward, placement, run}
+use Rattle.o32.specs.O32.{O32, carriers, onward, placement, run, start}
 use Rattle.block.proofs.Stores.{put-next}
 use Rattle.records.proofs.Ahead.{Ahead, ahead-starts, ahead-ends, ahead-sized, Behind, ahead-turn}
 use Rattle.reader.specs.declared.Checked.{Checked}
@@ -36,8 +36,8 @@ pub record Checking (d : Device) (sig img : List ℕ) (found : Checked) (st : St
   pub ahead : Ahead d false sig (length img) st at
   pub same : found ≡ firstImproper at (ahead .placed) img
 
-pub check-starts : (d : Device) (sig img : List ℕ) (st : State) → ((x : Device) → st ≡ O32 x .start) → Readable d sig img → Checking d sig img (improperIn (plan (O32 d) false sig) img) st 0
-check-starts d sig img st e f = rw (f .planned) (record { ahead = ahead-starts d false sig (length img) (f .placed) (f .last) (f .planned) (f .whole) st (e d); same = refl })
+pub check-starts : (d : Device) (sig img : List ℕ) (st : State) → st ≡ start → Readable d sig img → Checking d sig img (improperIn (plan (O32 d) false sig) img) st 0
+check-starts d sig img st e f = rw (f .planned) (record { ahead = ahead-starts d false sig (length img) (f .placed) (f .last) (f .planned) (f .whole) st e; same = refl })
 
 pub check-ends : (d : Device) (sig img : List ℕ) (found : Checked) (st : State) (at : ℕ) → Checking d sig img found st at → length sig ≤ at → K.Proper ≡ found
 check-ends d sig img found st at w h =
@@ -86,9 +86,9 @@ pub record Copying (d : Device) (sig img out₀ final : List ℕ) (st : State) (
   pub buffer : out ≡ first ++ drop n out₀
   pub whole : first ++ reading (ahead .placed) img ≡ final
 
-pub copy-starts : (d : Device) (sig img out : List ℕ) (st : State) → ((x : Device) → st ≡ O32 x .start) → Readable d sig img → Copying d sig img out (readingIn (plan (O32 d) false sig) img) st 0 0 out
+pub copy-starts : (d : Device) (sig img out : List ℕ) (st : State) → st ≡ start → Readable d sig img → Copying d sig img out (readingIn (plan (O32 d) false sig) img) st 0 0 out
 copy-starts d sig img out st e f = rw (f .planned) (record {
-  ahead = ahead-starts d false sig (length img) (f .placed) (f .last) (f .planned) (f .whole) st (e d);
+  ahead = ahead-starts d false sig (length img) (f .placed) (f .last) (f .planned) (f .whole) st e;
   first = [];
   long = refl;
   buffer = refl;

@@ -32,7 +32,7 @@ abbrev pub delivered : Checked → List ℕ → List ℕ → List ℕ
 delivered K.Proper list out = list
 delivered (K.Improper at) list out = out
 
--- An accepted signature whose images are as long as this one, on a device.
+-- On a device, an accepted signature whose images are as long as this one.
 pub record Readable (d : Device) (sig img : List ℕ) : Type 0 where
   pub placed : List Placed
   pub last : State

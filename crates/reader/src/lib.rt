@@ -24,12 +24,12 @@ fn check(device: Device, signature: &[u8], image: &[u8]) -> Checked
     let mut at = 0;
     while at < signature.len() {
         let kind = kinds::kind_of(signature[at]);
-        let place = records::placement_of(device, st, kind);
-        if !fetch::is_proper(image, place) {
+        let here = records::placement_of(device, st, kind);
+        if !fetch::is_proper(image, here) {
             return Checked::Improper(at);
         }
         at += 1;
-        st = records::state_behind(st, kind, place.offset);
+        st = records::state_behind(st, kind, here.offset);
     }
     Checked::Proper
 }

@@ -19,7 +19,7 @@ use Rattle.o32.specs.declared.State.{State}
 use Rattle.o32.specs.declared.Placement.{Placement}
 use Rattle.o32.specs.Kinds.{kindOf, is}
 use Rattle.o32.specs.Offsets.{extension, offset}
-use Rattle.o32.specs.O32.{O32, area, carriers, onward, placement, register}
+use Rattle.o32.specs.O32.{O32, area, carriers, onward, placement, register, start}
 use Rattle.placement.proofs.KindFacts.{kind-sound}
 use Rattle.placement.proofs.Laws.{O32-laws, up-ge}
 use Rattle.placement.proofs.Steps.{ends-within, word-aligned, register-floats}
@@ -38,7 +38,7 @@ pub record Ahead (d : Device) (bodies : Bool) (list : List ℕ) (m : ℕ) (st : 
   pub fits : st .end ≤ 1024
 
 abbrev pub ahead-starts : (d : Device) (bodies : Bool) (list : List ℕ) (m : ℕ) (L : List Placed) (last : State) → plan (O32 d) bodies list ≡ good L last → m ≡ 32 + area (last .end)
-    → (st : State) → st ≡ O32 d .start → Ahead d bodies list m st 0
+    → (st : State) → st ≡ start → Ahead d bodies list m st 0
 ahead-starts d bodies list m L last e g st i = record { inside = omega arith; placed = L; last = last; ahead = rw i e; whole = g; fits = rw i (omega arith) }
 
 pub ahead-ends : (d : Device) (bodies : Bool) (list : List ℕ) (m : ℕ) (st : State) (at : ℕ) (w : Ahead d bodies list m st at) → length list ≤ at → w .placed ≡ []

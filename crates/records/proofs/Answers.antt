@@ -9,7 +9,7 @@ use native.Mathlib.Nat.{mul-zero}
 use lib.Dec.{eqb, leb, eqb·suc-zero, leb·suc-zero}
 use borrow.Author.Tests.{ne-eqb, le-leb, lt-leb, leb-false, lt-ltb, le-ltb}
 use Rattle.device.specs.declared.Device.{Device}
-use Rattle.device.specs.declared.Device.the-variants.{Fpu, NoFpu}
+use Rattle.device.specs.declared.Device.the-variants.{Fpu}
 use Rattle.carried.specs.Convention.{refuse, next, behind, limited, taken}
 use Rattle.o32.specs.declared.Class.the-variants.{Unknown, Marker, Pointer, Float}
 use Rattle.o32.specs.declared.Kind.{Kind}
@@ -45,25 +45,21 @@ up-small a n (inr (inr e)) = omega (arith, up-le a n)
 
 -- ---- register, misplaced, full
 
-module _ (st : State) (d : Device) where
-  pub register-none : d ≡ NoFpu → 0 ≡ floatRegister d st
-  register-none e = rw e
+module _ (st : State) (d : Device) (e : d ≡ Fpu) where
+  pub register-first : st .count ≡ 0 → 12 ≡ floatRegister d st
+  register-first n = rw (e, n)
 
-  module _ (e : d ≡ Fpu) where
-    pub register-first : st .count ≡ 0 → 12 ≡ floatRegister d st
-    register-first n = rw (e, n)
+  pub register-late : (st .count ≡ 0 → ⊥) → (st .count ≡ 1 → ⊥) → 0 ≡ floatRegister d st
+  register-late n m = rw (e, ne-eqb (st .count) 0 n, ne-eqb (st .count) 1 m)
 
-    pub register-late : (st .count ≡ 0 → ⊥) → (st .count ≡ 1 → ⊥) → 0 ≡ floatRegister d st
-    register-late n m = rw (e, ne-eqb (st .count) 0 n, ne-eqb (st .count) 1 m)
+  pub register-behind : st .count ≡ 1 → st .floating ≡ false → 0 ≡ floatRegister d st
+  register-behind n f = rw (e, n, f)
 
-    pub register-behind : st .count ≡ 1 → st .floating ≡ false → 0 ≡ floatRegister d st
-    register-behind n f = rw (e, n, f)
+  pub register-marked : st .count ≡ 1 → st .floating ≡ true → st .marked ≡ true → 0 ≡ floatRegister d st
+  register-marked n f m = rw (e, n, f, m)
 
-    pub register-marked : st .count ≡ 1 → st .floating ≡ true → st .marked ≡ true → 0 ≡ floatRegister d st
-    register-marked n f m = rw (e, n, f, m)
-
-    pub register-second : st .count ≡ 1 → st .floating ≡ true → st .marked ≡ false → 14 ≡ floatRegister d st
-    register-second n f m = rw (e, n, f, m)
+  pub register-second : st .count ≡ 1 → st .floating ≡ true → st .marked ≡ false → 14 ≡ floatRegister d st
+  register-second n f m = rw (e, n, f, m)
 
 module _ (st : State) (k : Kind) where
   pub register-float : (d : Device) (t : Bool) (f : ℕ) → t ≡ is Float k → t ≡ true → f ≡ floatRegister d st → f ≡ register d st k

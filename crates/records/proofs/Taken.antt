@@ -71,5 +71,5 @@ took d bodies st k left kd st′ e = go (taken (O32 d) bodies left st k) refl e
         let a : kd ≡ p .kind = cc in
         let b : st′ ≡ q = cc in
         let c : p ≡ placement d st (kindOf k) = cc in
-        let d : q ≡ onward st (kindOf k) = cc in
-        record { placed = w; kind = a ∙ ap (λ (x : Placement). x .kind) c; state = b ∙ d }
+        let o : q ≡ onward st (kindOf k) = cc in
+        record { placed = w; kind = a ∙ ap (λ (x : Placement). x .kind) c; state = b ∙ o }

@@ -7,7 +7,7 @@ ghost use Rattle.device.specs.declared.Device.{Device};
 ghost use Rattle.carried.specs.Convention.{behind, taken};
 ghost use Rattle.o32.specs.declared.Class.the-variants.{Float, Pointer};
 ghost use Rattle.o32.specs.Kinds.{is};
-ghost use Rattle.o32.specs.O32.{O32, floatRegister, full, misplaced, onward, placement, register};
+ghost use Rattle.o32.specs.O32.{O32, floatRegister, full, misplaced, onward, placement, register, start};
 ghost use Rattle.words.specs.Words.{up};
 ghost use Rattle.o32.specs.Offsets.{offset};
 ghost use Rattle.records.specs.Records.{Alignment, Ready, recordOf};
@@ -114,9 +114,9 @@ fn starts_floating(st: State, kind: Kind) -> bool
     st.floating
 }
 
-// The state before the first record. No state depends on the device.
+// The state before the first record.
 pub fn start() -> State
-    ensures { λ r. ⌜ ((d : Device) → r ≡ O32 d .start) ⌝ }
+    ensures { λ r. ⌜ r ≡ start ⌝ }
 {
     State {
         end: 0,

@@ -9,8 +9,9 @@ use lib.Bits.{bitAnd}
 use lib.Count.{ones, ones-le, ones-cat}
 use borrow.Author.Tests.{ltb-false, eqb-true, not-false}
 use Rattle.device.specs.declared.Device.{Device}
+use Rattle.device.specs.declared.Device.the-variants.{NoFpu}
 use Rattle.saves.specs.Masks.{named, below}
-use Rattle.saves.specs.Frame.{savable, outside, withoutUnit, unreturning, overfull, refusalOf, buildFor, buildOf, generalAt, localsAt, frameOf}
+use Rattle.saves.specs.Frame.{savable, outside, pairsWithoutUnit, unreturning, overfull, refusalOf, buildFor, buildOf, generalAt, localsAt, frameOf}
 use Rattle.saves.specs.declared.Request.{Request}
 use Rattle.saves.proofs.Masks.{ones-all, below-le, and-savable}
 
@@ -54,14 +55,18 @@ savable-masks r e =
     let o = or-false (not (eqb (bitAnd (r .general) savable) (r .general))) (ltb 63 (r .pairs)) e in
     record { general = sym (eqb-true _ _ (not-false _ (o .0))) ∙ and-savable (r .general); pairs = ltb-false _ _ (o .1) }
 
--- no refusal of a device holds
+-- a request that is not refused on a device: none of its conditions holds
 passed : (d : Device) (r : Request) → refusalOf d r ≡ 0
-    → (outside r ≡ false) × (withoutUnit d r ≡ false) × (unreturning r ≡ false) × (ltb 16384 (r .locals) ≡ false) × (overfull r ≡ false)
+    → (outside r ≡ false) × (pairsWithoutUnit d r ≡ false) × (unreturning r ≡ false) × (ltb 16384 (r .locals) ≡ false) × (overfull r ≡ false)
 unfolding refusalOf
-passed d r e = five (outside r) (withoutUnit d r) (unreturning r) (ltb 16384 (r .locals)) (overfull r) e
+passed d r e = five (outside r) (pairsWithoutUnit d r) (unreturning r) (ltb 16384 (r .locals)) (overfull r) e
 
 pub inside : (d : Device) (r : Request) → refusalOf d r ≡ 0 → outside r ≡ false
 inside d r e = passed d r e .0
+
+-- without a floating-point unit it names no pair
+pub no-pairs : (r : Request) → refusalOf NoFpu r ≡ 0 → r .pairs ≡ 0
+no-pairs r e = eqb-true (r .pairs) 0 (not-false _ (passed NoFpu r e .1))
 
 pub accepted : (d : Device) (r : Request) → refusalOf d r ≡ 0 → Accepted r
 accepted d r e =

@@ -1,4 +1,4 @@
--- The bytes of a request's prologue and epilogue keep what is demanded of them, where any device accepts it.
+-- The bytes of a request's prologue and epilogue keep what is demanded of them, where some device accepts it.
 -- Assumes nothing.
 use mathlib.Core.Path.{_≡_, refl, sym, ap, _∙_, subst}
 use mathlib.Core.Bool.{Bool, true, false}

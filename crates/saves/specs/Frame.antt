@@ -20,9 +20,9 @@ abbrev pub outside : Request → Bool
 outside r = not (eqb (bitAnd (r .general) savable) (r .general)) || ltb 63 (r .pairs)
 
 -- Request (ii) of document 02. "14, pair mask not 0 on this device, directly after 9": on the one without a floating-point unit.
-abbrev pub withoutUnit : Device → Request → Bool
-withoutUnit Fpu r = false
-withoutUnit NoFpu r = not (eqb (r .pairs) 0)
+abbrev pub pairsWithoutUnit : Device → Request → Bool
+pairsWithoutUnit Fpu r = false
+pairsWithoutUnit NoFpu r = not (eqb (r .pairs) 0)
 
 -- "10: not a leaf and `$31` not named".
 abbrev pub unreturning : Request → Bool
@@ -36,7 +36,7 @@ overfull r = ltb 1024 (r .outgoing) || (r .leaf && not (eqb (r .outgoing) 0))
 unfoldable pub refusalOf : Device → Request → ℕ
 refusalOf d r =
     cond (outside r) 9
-    (cond (withoutUnit d r) 14
+    (cond (pairsWithoutUnit d r) 14
     (cond (unreturning r) 10
     (cond (ltb 16384 (r .locals)) 11
     (cond (overfull r) 12 0))))

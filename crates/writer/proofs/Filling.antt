@@ -18,7 +18,7 @@ use Rattle.o32.specs.declared.State.{State}
 use Rattle.o32.specs.declared.Placement.{Placement}
 use Rattle.o32.specs.Kinds.{kindOf}
 use Rattle.o32.specs.Offsets.{extension}
-use Rattle.o32.specs.O32.{O32, carriers, onward, placement}
+use Rattle.o32.specs.O32.{O32, carriers, onward, placement, start}
 use Rattle.placement.proofs.Bounds.{plan-bound}
 use Rattle.records.proofs.Ahead.{Ahead, ahead-starts, ahead-ends, ahead-within, ahead-sized, Behind, ahead-turn}
 use Rattle.writer.specs.Filling.{Fillable, filled}
@@ -31,9 +31,9 @@ pub record Filling (d : Device) (list : List ℕ) (n : ℕ) (final : List ℕ) (
   pub ahead : Ahead d true list n st at
   pub rest : put img (carried (ahead .placed)) (promotedBytes (ahead .placed) (drop at list)) ≡ final
 
-pub fill-starts : (d : Device) (list img : List ℕ) (n : ℕ) (st : State) → ((x : Device) → st ≡ O32 x .start) → Fillable d list n
+pub fill-starts : (d : Device) (list img : List ℕ) (n : ℕ) (st : State) → st ≡ start → Fillable d list n
     → Filling d list n (filled (plan (O32 d) true list) list img) st 0 img
-fill-starts d list img n st e f = rw (f .planned) (record { ahead = ahead-starts d true list n (f .placed) (f .last) (f .planned) (f .whole) st (e d); rest = refl })
+fill-starts d list img n st e f = rw (f .planned) (record { ahead = ahead-starts d true list n (f .placed) (f .last) (f .planned) (f .whole) st e; rest = refl })
 
 pub fill-ends : (d : Device) (list : List ℕ) (n : ℕ) (final : List ℕ) (st : State) (at : ℕ) (img : List ℕ) → Filling d list n final st at img → length list ≤ at → img ≡ final
 fill-ends d list n final st at img w h =

@@ -9,7 +9,7 @@ use Rattle.carried.specs.Convention.{Plan, bad, good, plan}
 use Rattle.o32.specs.declared.State.{State}
 use Rattle.o32.specs.O32.{O32, area}
 
--- An accepted list whose image has n bytes, on a device.
+-- On a device, an accepted list whose image has n bytes.
 pub record Fillable (d : Device) (list : List ℕ) (n : ℕ) : Type 0 where
   pub placed : List Placed
   pub last : State

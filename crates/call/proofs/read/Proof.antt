@@ -2,7 +2,6 @@
 -- Assumes nothing.
 use mathlib.Core.Path.{sym, _∙_}
 use mathlib.Core.Bool.{false}
-use Rattle.device.specs.declared.Device.{Device}
 use Rattle.call.proofs.Writing.{end-in-bounds}
 use Rattle.call.proofs.Reading.{Found, found, read-refused, read-wrong, read-short, read-room, read-improper, read-done}
 use borrow.Author.Needs.{needs}
@@ -41,14 +40,14 @@ returns-2 c =
     let r = read-wrong (s .device) (s .signature .now) (s .image .now) (s .out .now) _ (c .before .before .before .before .found .given .0 .1 .0) (c .before .before .image-length .result) (sym (c .before .before .before .before .found .given .1) ∙ c .before .before .before .before .before .before .measure-signature .ensures (s .device)) (c .before .before .image-length .ensures) (c .before .if1 .taken) in
     (c .reply .ensures ∙ r .answer, r .buffer)
 
--- the signature is accepted, and the image is as long as it says, on every device
-accepted : (c : tie.Else1) (d : Device) → (let s = c .before .before .before .before .before .before .before .before .before .args in
-    Found d (s .signature .now) (s .image .now) (c .before .before .before .found .given .0 .0))
-accepted c d =
+-- the signature is accepted, and the image is as long as it says
+accepted : (c : tie.Else1) → (let s = c .before .before .before .before .before .before .before .before .before .args in
+    Found (s .device) (s .signature .now) (s .image .now) (c .before .before .before .found .given .0 .0))
+accepted c =
     let s = c .before .before .before .before .before .before .before .before .before .args in
     let m = c .before .before .before in
-    found d (s .signature .now) (s .image .now) (m .found .given .0 .0) (m .found .given .0 .1 .0) (c .before .image-length .result)
-    (λ x. sym (m .found .given .1) ∙ m .before .before .measure-signature .ensures x) (c .before .image-length .ensures) (c .if1 .left)
+    found (s .device) (s .signature .now) (s .image .now) (m .found .given .0 .0) (m .found .given .0 .1 .0) (c .before .image-length .result)
+    (sym (m .found .given .1) ∙ m .before .before .measure-signature .ensures (s .device)) (c .before .image-length .ensures) (c .if1 .left)
 
 reply-requires-2 : tie.Need-reply-requires-2
 reply-requires-2 c κs = search needs
@@ -56,13 +55,13 @@ reply-requires-2 c κs = search needs
 returns-3 : tie.Need-returns-3
 returns-3 c =
     let s = c .before .before .before .before .before .before .before .before .before .before .before .args in
-    let r = read-short (s .device) (s .signature .now) (s .image .now) (s .out .now) _ (accepted (c .before .before) (s .device)) (c .before .if2 .taken) in
+    let r = read-short (s .device) (s .signature .now) (s .image .now) (s .out .now) _ (accepted (c .before .before)) (c .before .if2 .taken) in
     (c .reply2 .ensures ∙ r .answer, r .buffer)
 
 deliver-requires : tie.Need-deliver-requires
 deliver-requires c κs =
     let s = c .before .before .before .before .before .before .before .before .before .before .before .args in
-    (accepted (c .before .before) (s .device) .readable, read-room (s .device) (s .signature .now) (s .image .now) (s .out .now) _ (accepted (c .before .before) (s .device)) (c .before .if2 .left))
+    (accepted (c .before .before) .readable, read-room (s .device) (s .signature .now) (s .image .now) (s .out .now) _ (accepted (c .before .before)) (c .before .if2 .left))
 
 enum-told-2 : tie.Need-enum-told-2
 enum-told-2 c = search needs
@@ -79,7 +78,7 @@ same-length c = search needs
 returns-4 : tie.Need-returns-4
 returns-4 c =
     let s = c .before .before .before .before .before .before .before .before .before .before .before .before .before .before .before .before .before .args in
-    let v = accepted (c .before .before .before .before .before .before .before .before) (s .device) in
+    let v = accepted (c .before .before .before .before .before .before .before .before) in
     let r = read-improper (s .device) (s .signature .now) (s .image .now) (s .out .now) _ v (c .before .before .before .before .before .before .before .if2 .left) (c .before .before .before .before .before .deliver .result) _ (c .improper .result) _ (c .before .before .before .before .before .deliver .ensures .0) (c .before .before .before .before .before .deliver .ensures .1) (c .before .enum-told3 .given .1) (c .improper .ensures _ (c .before .enum-told3 .given .1)) in
     (r .answer, r .buffer)
 
@@ -92,7 +91,7 @@ same-length-2 c = search needs
 returns-5 : tie.Need-returns-5
 returns-5 c =
     let s = c .before .before .before .before .before .before .before .before .before .before .before .before .before .before .before .before .before .args in
-    let v = accepted (c .before .before .before .before .before .before .before .before) (s .device) in
+    let v = accepted (c .before .before .before .before .before .before .before .before) in
     let r = read-done (s .device) (s .signature .now) (s .image .now) (s .out .now) _ v (c .before .before .before .before .before .before .before .if2 .left) (c .before .before .before .before .before .deliver .result) _ (c .before .before .before .before .before .deliver .ensures .0) (c .before .before .before .before .before .deliver .ensures .1) (c .before .enum-told2 .given .1) in
     (c .reply3 .ensures ∙ r .answer, r .buffer)
 

@@ -35,7 +35,7 @@ image-length-requires c κs = let s = c .before .before .before .before .before 
 accepted : (c : tie.After-image-length) (d : Device) → Fillable d (c .before .before .before .before .before .before .before .args .list .now) (c .image-length .result)
 accepted c d =
     fillable d (c .before .before .before .before .before .before .before .args .list .now) _ (c .before .before .found .given .0 .1 .0) (c .image-length .result)
-    (λ x. sym (c .before .before .found .given .1) ∙ c .before .before .before .before .measure-list .ensures x) (c .image-length .ensures)
+    (sym (c .before .before .found .given .1) ∙ c .before .before .before .before .measure-list .ensures d) (c .image-length .ensures)
 
 reply-requires : tie.Need-reply-requires
 reply-requires c κs = search needs

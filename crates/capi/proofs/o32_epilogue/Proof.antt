@@ -1,9 +1,11 @@
 -- `o32_epilogue` meets its contract: the answer of the epilogue of the request that C hands over, in 32 bits.
 -- Assumes nothing.
-use mathlib.Core.Path.{ap, _∙_}
+use mathlib.Core.Path.{ap₂}
 use lib.ListN.{length}
-use Rattle.capi.specs.Numbers.{narrow}
-use Rattle.capi.proofs.Bounds.{epilogue-fits}
+use Rattle.device.specs.declared.Device.{Device}
+use Rattle.saves.specs.declared.Request.{Request}
+use Rattle.frame.specs.Code.{epilogueInto}
+use Rattle.capi.proofs.Bounds.{epilogue-fits, handed}
 use borrow.Author.Needs.{needs}
 use Rattle.capi.proofs.o32_epilogue.Statement.{statement}
 use Rattle.capi.proofs.o32_epilogue.Tie as tie
@@ -25,9 +27,8 @@ same-length c = search needs
 
 returns : tie.Need-returns
 returns c =
-    let d = c .before .before .before .before .before .as-device .ensures in
-    let e = c .before .before .before .before .before .before .as-request .ensures in
-    (c .narrowed .ensures ∙ ap narrow (rw (d, e) at (c .before .before .before .epilogue .ensures .0)), rw (d, e) at (c .before .before .before .epilogue .ensures .1))
+    let s = c .before .before .before .before .before .before .before .before .args in
+    handed (λ (x : Device × Request). epilogueInto (x .0) (x .1) (length (s .code .now))) (s .code .now) (ap₂ (λ (d : Device) (r : Request). (d, r)) (c .before .before .before .before .before .as-device .ensures) (c .before .before .before .before .before .before .as-request .ensures)) (c .narrowed .ensures) (c .before .before .before .epilogue .ensures .0) (c .before .before .before .epilogue .ensures .1)
 
 pub o32-epilogue-spec : {M : Type 1} → statement M
 o32-epilogue-spec = tie.close (tie.spec as-request-requires as-device-requires epilogue-requires narrowed-requires same-length returns)

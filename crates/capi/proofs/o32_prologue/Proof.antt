@@ -1,9 +1,11 @@
 -- `o32_prologue` meets its contract: the answer of the prologue of the request that C hands over, in 32 bits.
 -- Assumes nothing.
-use mathlib.Core.Path.{ap, _∙_}
+use mathlib.Core.Path.{ap₂}
 use lib.ListN.{length}
-use Rattle.capi.specs.Numbers.{narrow}
-use Rattle.capi.proofs.Bounds.{prologue-fits}
+use Rattle.device.specs.declared.Device.{Device}
+use Rattle.saves.specs.declared.Request.{Request}
+use Rattle.frame.specs.Code.{prologueInto}
+use Rattle.capi.proofs.Bounds.{prologue-fits, handed}
 use borrow.Author.Needs.{needs}
 use Rattle.capi.proofs.o32_prologue.Statement.{statement}
 use Rattle.capi.proofs.o32_prologue.Tie as tie
@@ -25,9 +27,8 @@ same-length c = search needs
 
 returns : tie.Need-returns
 returns c =
-    let d = c .before .before .before .before .before .as-device .ensures in
-    let e = c .before .before .before .before .before .before .as-request .ensures in
-    (c .narrowed .ensures ∙ ap narrow (rw (d, e) at (c .before .before .before .prologue .ensures .0)), rw (d, e) at (c .before .before .before .prologue .ensures .1))
+    let s = c .before .before .before .before .before .before .before .before .args in
+    handed (λ (x : Device × Request). prologueInto (x .0) (x .1) (length (s .code .now))) (s .code .now) (ap₂ (λ (d : Device) (r : Request). (d, r)) (c .before .before .before .before .before .as-device .ensures) (c .before .before .before .before .before .before .as-request .ensures)) (c .narrowed .ensures) (c .before .before .before .prologue .ensures .0) (c .before .before .before .prologue .ensures .1)
 
 pub o32-prologue-spec : {M : Type 1} → statement M
 o32-prologue-spec = tie.close (tie.spec as-request-requires as-device-requires prologue-requires narrowed-requires same-length returns)

@@ -1,12 +1,9 @@
 -- `o32_write` meets its contract: the writer's answer in 32 bits.
 -- Assumes nothing.
-use mathlib.Core.Path.{ap, _∙_}
 use lib.ListN.{length}
 use Rattle.device.specs.declared.Device.{Device}
-use Rattle.answers.specs.Answers.{answerOf, bufferOf}
 use Rattle.call.specs.Answers.{writeInto}
-use Rattle.capi.specs.Numbers.{narrow}
-use Rattle.capi.proofs.Bounds.{write-fits}
+use Rattle.capi.proofs.Bounds.{write-fits, handed}
 use borrow.Author.Needs.{needs}
 use Rattle.capi.proofs.o32_write.Statement.{statement}
 use Rattle.capi.proofs.o32_write.Tie as tie
@@ -28,10 +25,7 @@ same-length c = search needs
 returns : tie.Need-returns
 returns c =
     let s = c .before .before .before .before .before .before .before .before .args in
-    let e = c .before .before .before .before .before .as-device .ensures in (
-      c .narrowed .ensures ∙ ap narrow (c .before .before .before .write .ensures .0 ∙ ap (λ (d : Device). answerOf (writeInto d (s .list .now) (length (s .image .now)))) e),
-      c .before .before .before .write .ensures .1 ∙ ap (λ (d : Device). bufferOf (writeInto d (s .list .now) (length (s .image .now))) (s .image .now)) e,
-    )
+    handed (λ (d : Device). writeInto d (s .list .now) (length (s .image .now))) (s .image .now) (c .before .before .before .before .before .as-device .ensures) (c .narrowed .ensures) (c .before .before .before .write .ensures .0) (c .before .before .before .write .ensures .1)
 
 pub o32-write-spec : {M : Type 1} → statement M
 o32-write-spec = tie.close (tie.spec as-device-requires write-requires narrowed-requires same-length returns)

@@ -11,9 +11,6 @@ Inv-loop text n at₀ at = Unit {0}
 abbrev μ-loop : tie.MeasureT-loop
 μ-loop text n at₀ at = n - at
 
-large-buffer-requires : tie.Need-large-buffer-requires Inv-loop μ-loop
-large-buffer-requires c κs = tt
-
 slice-aggregate-read-full : tie.Need-slice-aggregate-read-full Inv-loop μ-loop
 slice-aggregate-read-full c = omega arith
 
@@ -74,7 +71,6 @@ main-spec =
     (tie.spec
     Inv-loop
     μ-loop
-    large-buffer-requires
     slice-aggregate-read-full
     read-full-requires
     loop-holds

@@ -6,7 +6,7 @@ use lib.Dec.{ltb}
 use borrow.Author.Tests.{lt-ltb, le-ltb}
 use Rattle.device.specs.declared.Device.{Device}
 use Rattle.saves.specs.declared.Request.{Request}
-use Rattle.saves.specs.Frame.{outside, withoutUnit, unreturning, overfull, refusalOf}
+use Rattle.saves.specs.Frame.{outside, pairsWithoutUnit, unreturning, overfull, refusalOf}
 use borrow.Author.Needs.{needs}
 use Rattle.frame.proofs.refusal.Statement.{statement}
 use Rattle.frame.proofs.refusal.Tie as tie
@@ -14,8 +14,8 @@ use Rattle.frame.proofs.refusal.Tie as tie
 is-outside-requires : tie.Need-is-outside-requires
 is-outside-requires c κs = search needs
 
-is-without-unit-requires : tie.Need-is-without-unit-requires
-is-without-unit-requires c κs = search needs
+has-pairs-without-unit-requires : tie.Need-has-pairs-without-unit-requires
+has-pairs-without-unit-requires c κs = search needs
 
 is-unreturning-requires : tie.Need-is-unreturning-requires
 is-unreturning-requires c κs = search needs
@@ -24,17 +24,17 @@ is-overfull-requires : tie.Need-is-overfull-requires
 is-overfull-requires c κs = search needs
 
 -- the refusals in their order, by what the tests have answered
-ordered : (d : Device) (r : Request) {o w u f : Bool} → o ≡ outside r → w ≡ withoutUnit d r → u ≡ unreturning r → f ≡ overfull r
+ordered : (d : Device) (r : Request) {o w u f : Bool} → o ≡ outside r → w ≡ pairsWithoutUnit d r → u ≡ unreturning r → f ≡ overfull r
     → refusalOf d r ≡ cond o 9 (cond w 14 (cond u 10 (cond (ltb 16384 (r .locals)) 11 (cond f 12 0))))
 unfolding refusalOf
 ordered d r o w u f = rw (o, w, u, f)
 
 tested : (c : tie.After-is-overfull)
     → refusalOf (c .before .before .before .before .args .device) (c .before .before .before .before .args .request)
-    ≡ cond (c .before .before .before .is-outside .result) 9 (cond (c .before .before .is-without-unit .result) 14 (cond (c .before .is-unreturning .result) 10
+    ≡ cond (c .before .before .before .is-outside .result) 9 (cond (c .before .before .has-pairs-without-unit .result) 14 (cond (c .before .is-unreturning .result) 10
     (cond (ltb 16384 (c .before .before .before .before .args .request .locals)) 11 (cond (c .is-overfull .result) 12 0))))
 tested c =
-    ordered _ _ (c .before .before .before .is-outside .ensures) (c .before .before .is-without-unit .ensures) (c .before .is-unreturning .ensures) (c .is-overfull .ensures)
+    ordered _ _ (c .before .before .before .is-outside .ensures) (c .before .before .has-pairs-without-unit .ensures) (c .before .is-unreturning .ensures) (c .is-overfull .ensures)
 
 returns : tie.Need-returns
 returns c = sym (tested (c .before) ∙ simp (c .if1 .taken))
@@ -61,7 +61,7 @@ refusal-spec =
     tie.close
     (tie.spec
     is-outside-requires
-    is-without-unit-requires
+    has-pairs-without-unit-requires
     is-unreturning-requires
     is-overfull-requires
     returns
