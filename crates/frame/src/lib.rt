@@ -7,7 +7,7 @@ ghost use lib.ListN.{length};
 ghost use lib.Seq.{sets};
 ghost use Rattle.words.specs.Words.{up};
 ghost use Rattle.answers.specs.Answers.{answerOf, bufferOf};
-ghost use Rattle.saves.specs.Frame.{buildFor, floatingAt, generalAt, layoutOf, outside, overfull, refusalOf, unreturning, pairsWithoutUnit};
+ghost use Rattle.saves.specs.Frame.{buildFor, floatingAt, generalAt, layoutOf, outside, overfull, pairsWithoutUnit, refusalOf, unreturning};
 ghost use Rattle.saves.specs.Words.{bytesOfWords, savesOf, slotFor, wordOf};
 ghost use Rattle.frame.specs.Code.{epilogueInto, prologueInto};
 use answers::Answer;

@@ -1,20 +1,22 @@
 -- The bytes of a request's prologue and epilogue keep what is demanded of them, where some device accepts it.
 -- Assumes nothing.
 use mathlib.Core.Path.{_≡_, refl, sym, ap, _∙_, subst}
-use mathlib.Core.Bool.{Bool, true, false}
+use mathlib.Core.Bool.{Bool, true, false, true≢false}
 use mathlib.Core.Logic.{inl, inr}
 use mathlib.Core.List.{List}
-use Prim.Native.Nat.{ℕ, _+_, _<_}
+use Prim.Native.Nat.{ℕ, _+_, _^_, _<_}
 use native.Mathlib.Omega.{arith}
+use native.Mathlib.Nat.{zero-div}
 use lib.ListN.{length}
 use Rattle.device.specs.declared.Device.{Device}
+use Rattle.device.specs.declared.Device.the-variants.{NoFpu}
 use Rattle.machine.specs.Machine.{State, run, Holds, Runs}
 use Rattle.saves.specs.Masks.{named}
 use Rattle.saves.specs.Frame.{refusalOf, floatingAt, generalAt, frameOf}
 use Rattle.saves.specs.Words.{Save, collect, pairAt, registerAt, savesOf, prologueFor, epilogueFor, prologueWords, epilogueWords, bytesOfWords}
 use Rattle.saves.specs.Demand.{wordsIn, Ready, Entry, SaveWord, register, even, odd, Prologued, Body, Returned, Keeps}
 use Rattle.saves.specs.declared.Request.{Request}
-use Rattle.saves.proofs.Accepted.{accepted}
+use Rattle.saves.proofs.Accepted.{no-pairs, accepted}
 use Rattle.saves.proofs.Saves.{All, all-both, all-append, all-split, Sound}
 use Rattle.saves.proofs.Prologue.{Entered, prologue}
 use Rattle.saves.proofs.Epilogue.{Left, Returns, epilogue}
@@ -95,3 +97,16 @@ frames x r ok code s e c =
           (all-both vs (λ v x y. x ∙ y) (at-saves r (λ (o : ℕ). u .mem (t .reg 29 + o) ≡ t .mem (t .reg 29 + o)) (b .saves)) (p .saved)) (return r _ s t u p b))
           (λ w l. returned r s w e l),
     ))
+
+none-named : (k : ℕ) → named 0 k ≡ false
+none-named k = rw (zero-div (2 ^ k))
+
+-- Without a floating-point unit an accepted request names no pair (refusal 14), so its code has no floating instruction: all saves
+-- are of general registers.
+pub no-floats : (r : Request) → refusalOf NoFpu r ≡ 0 → All (λ (v : Save). v .float ≡ false) (savesOf r)
+unfolding savesOf
+no-floats r ok =
+    all-append _ (collect (pairAt (floatingAt r) (r .pairs)) (r .pairs) 6) _
+    (collect-all _ (pairAt (floatingAt r) (r .pairs)) (r .pairs) 6
+    (λ k l n. absurd (true≢false (sym n ∙ ap (λ (m : ℕ). named m k) (no-pairs r ok) ∙ none-named k))))
+    (collect-all _ (registerAt (generalAt r) (r .general)) (r .general) 32 (λ k l n. (refl, tt)))
