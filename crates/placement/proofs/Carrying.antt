@@ -253,7 +253,7 @@ outside (one {st = st} {st′ = st′} {k = k} {p = place} {L = L} e f w) p m = 
     span-outside (width (kindOf k)) (offset (kindOf k) (st .end)) p (subst (In p) q i))
     (λ i. outside w p i)
 
--- "no floating register is used and those four image words carry nothing": bytes 16 to 31. (The homes, 32 to 47, carry nothing on any
--- device.)
+-- Request (ii) of document 02: "no floating register is used and those four image words carry nothing", bytes 16 to 31. (The homes,
+-- 32 to 47, carry nothing on any device.)
 pub floats-carry-nothing : (sig : List ℕ) (L : List Placed) (last : State) → plan (O32 NoFpu) false sig ≡ good L last → (p : ℕ) → In p (carried L) → (p < 16) ⊎ (48 ≤ p)
 floats-carry-nothing sig L last ok = outside (walk-of (O32 NoFpu) (O32-laws NoFpu) sig start L last 0 ok)
