@@ -114,6 +114,13 @@ fn model_request(request: &o32::Request) -> model::Request {
     }
 }
 
+/// The record of a structure.
+fn structure(kind: u8, size: usize) -> Vec<u8> {
+    std::iter::once(kind)
+        .chain((0..size).map(|i| i as u8))
+        .collect()
+}
+
 /// Lists by name, each with its signature.
 fn lists() -> Vec<(&'static str, Vec<u8>, Vec<u8>)> {
     // Doubles and singles first, so that the floating registers are in use.
@@ -129,13 +136,14 @@ fn lists() -> Vec<(&'static str, Vec<u8>, Vec<u8>)> {
         &[0x06, 1, 2, 3, 4, 5, 6, 7, 8],
     ];
     let word: &[u8] = &[0x05, 1, 2, 3, 4];
-    let structure: Vec<u8> = std::iter::once(0xFF)
-        .chain((0..512).map(|i| i as u8))
-        .collect();
+    let largest = structure(0xFF, 512);
+    let (short, split) = (structure(0x45, 6), structure(0x53, 20));
     [
         ("3 words", vec![word; 3]),
         ("32 words", vec![word; 32]),
-        ("two FF structures", vec![&structure[..]; 2]),
+        ("two FF structures", vec![&largest[..]; 2]),
+        ("word, structure of 6", vec![word, &short]),
+        ("word, structure of 20, split", vec![word, &split]),
         ("mixed list", mixed.to_vec()),
     ]
     .into_iter()
