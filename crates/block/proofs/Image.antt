@@ -14,9 +14,9 @@ use Rattle.carried.specs.Demand.{In}
 use Rattle.carried.proofs.Places as Places
 use Rattle.o32.specs.O32.{run, carrier}
 use Rattle.placement.proofs.Laws.{run-at}
+use Rattle.placement.proofs.Runs.{span-low, span-high, span-split}
 use Rattle.block.specs.Block.{blockBytes, whole}
 use Rattle.block.proofs.Stores.{put-left, put-right, put-behind, put-next, store-behind}
-use Rattle.block.proofs.Spans.{span-low, span-high, span-split}
 
 pub length-block : (ws : List ℕ) → length (blockBytes ws) ≡ 4 * length ws
 length-block [] = refl
@@ -41,12 +41,10 @@ word-changed (x ∷ ws) (suc j) w k n vs h g e =
     ∙ sym (put-right n (4 * j + k) (bytesOf 4 x) (blockBytes ws) vs)
     ∙ ap (λ (p : ℕ). put (blockBytes (x ∷ ws)) (run p n) vs) (sym i)
 
--- one byte of it
-pub byte-changed : (ws : List ℕ) (p w b : ℕ) → p / 4 < length ws → bytesOf 4 w ≡ set (bytesOf 4 (getD ws (p / 4) 0)) (p % 4) b
-    → blockBytes (set ws (p / 4) w) ≡ set (blockBytes ws) p b
-byte-changed ws p w b h e =
-    let i : 4 * (p / 4) + p % 4 ≡ p = omega arith in
-    word-changed ws (p / 4) w (p % 4) 1 (b ∷ []) h (omega arith) e ∙ rw i
+-- n bytes of it from its first on
+pub word-start : (ws : List ℕ) (j w n : ℕ) (vs : List ℕ) → j < length ws → n ≤ 4 → bytesOf 4 w ≡ put (bytesOf 4 (getD ws j 0)) (run 0 n) vs
+    → blockBytes (set ws j w) ≡ put (blockBytes ws) (run (4 * j) n) vs
+word-start ws j w n vs h g e = word-changed ws j w 0 n vs h (omega arith) e ∙ rw add-zero
 
 -- all of it
 pub word-stored : (ws : List ℕ) (j w : ℕ) → j < length ws → blockBytes (set ws j w) ≡ put (blockBytes ws) (run (4 * j) 4) (bytesOf 4 w)

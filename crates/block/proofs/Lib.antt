@@ -1,6 +1,6 @@
 pub mod Stores
-pub mod Spans
 pub mod WordBytes
 pub mod Image
+pub mod Low
 pub mod Floats
 pub mod Arguments

@@ -8,17 +8,14 @@ use native.Mathlib.Omega.{arith}
 use native.Mathlib.Numerals.{add-one}
 use native.Mathlib.Nat.{zero-add, suc-add, add-zero, add-suc}
 use lib.ListN.{length, getD, set, take, drop, length-append, length-drop}
-use lib.Seq.{sets, length-take-le, take-suc, take-add, getD-drop, drop-drop, drop-set-add, set-at, append-snoc}
+use lib.Seq.{sets, length-take-le, take-suc, take-suc-set, take-add, getD-drop, drop-drop, drop-set-add, set-at, append-snoc}
 use Rattle.words.specs.Words.{bytesOf}
 use Rattle.carried.specs.Image.{put}
 use Rattle.o32.specs.O32.{run}
 use Rattle.carried.proofs.Places as Places
 use Rattle.carried.proofs.Places.{put-append}
 use Rattle.placement.proofs.Laws.{length-run, run-at}
-
-pub run-add : (m n o : ℕ) → run o (m + n) ≡ run o m ++ run (o + m) n
-run-add zero n o = rw (zero-add, add-zero)
-run-add (suc m) n o = rw (suc-add m n) (ap (λ (r : List ℕ). o ∷ r) (run-add m n (suc o) ∙ rw (suc-add o m, ← (add-suc o m))))
+use Rattle.placement.proofs.Runs.{run-add}
 
 -- ---- one store behind another
 
@@ -34,12 +31,23 @@ pub store-more : (img src : List ℕ) (to at i m : ℕ) → at + i ≤ length sr
     → put (put img (run to i) (take i (drop at src))) (run (to + i) m) (take m (drop (at + i) src)) ≡ put img (run to (i + m)) (take (i + m) (drop at src))
 store-more img src to at i m h = rw run-add (store-behind img src i m to (to + i) at h)
 
+-- the same, of the contents before and behind the turn
+pub more-stored : (img src : List ℕ) (to at i m : ℕ) {out out′ : List ℕ} → at + i ≤ length src → out ≡ put img (run to i) (take i (drop at src))
+    → out′ ≡ put out (run (to + i) m) (take m (drop (at + i) src)) → out′ ≡ put img (run to (i + m)) (take (i + m) (drop at src))
+more-stored img src to at i m h d e = e ∙ rw d (store-more img src to at i m h)
+
 -- one byte of it
 pub store-next : (img src : List ℕ) (to at i : ℕ) → at + i < length src
     → set (put img (run to i) (take i (drop at src))) (to + i) (getD src (at + i) 0) ≡ put img (run to (i + 1)) (take (i + 1) (drop at src))
 store-next img src to at i h =
     let one : take 1 (drop (at + i) src) ≡ getD src (at + i) 0 ∷ [] = take-suc (drop (at + i) src) 0 0 (rw length-drop (omega arith)) ∙ rw (getD-drop, add-zero) in
     rw (← store-more img src to at i 1 (omega arith), one)
+
+-- a turn of a loop that takes bytes of a source into a list
+pub held-next : (part src : List ℕ) (at i : ℕ) → i < length part → at + i < length src → take i part ≡ take i (drop at src)
+    → take (i + 1) (set part i (getD src (at + i) 0)) ≡ take (i + 1) (drop at src)
+held-next part src at i h g e =
+    rw add-one (take-suc-set part i (getD src (at + i) 0) h ∙ rw (e, ← getD-drop) (sym (take-suc (drop at src) i 0 (rw length-drop (omega arith)))))
 
 -- bytes set from a place on are stored at the run of them
 sets-run : (vs l : List ℕ) (i : ℕ) → sets l i vs ≡ put l (run i (length vs)) vs

@@ -1,6 +1,8 @@
 -- The image as the writer holds it: the register block, and the buffer behind its first 32 bytes.
 use mathlib.Core.List.{List, [], _∷_, _++_}
-use Prim.Native.Nat.{ℕ}
+use mathlib.Core.Bool.{cond}
+use Prim.Native.Nat.{ℕ, _-_, min}
+use lib.Dec.{ltb}
 use lib.ListN.{drop}
 use Rattle.words.specs.Words.{bytesOf}
 
@@ -11,3 +13,7 @@ blockBytes (w ∷ ws) = bytesOf 4 w ++ blockBytes ws
 
 abbrev pub whole : List ℕ → List ℕ → List ℕ
 whole block out = blockBytes block ++ drop 32 out
+
+-- How many of n bytes from byte o on are in the word at byte p, where o and p are multiples of 4.
+abbrev pub inWord : ℕ → ℕ → ℕ → ℕ
+inWord o n p = cond (ltb p o) 0 (min 4 (n - (p - o)))

@@ -2,13 +2,13 @@
 // the area.
 ghost use mathlib.Core.List.{map};
 ghost use mathlib.Core.Path.{_≡_};
-ghost use Prim.Native.Nat.{_%_, _+_, _<_, _≤_};
+ghost use Prim.Native.Nat.{_%_, _+_, _-_, _<_, _≤_, min};
 ghost use lib.ListN.{drop, length, set, take};
 ghost use Rattle.words.specs.Words.{bytesOf, promote, toWord};
 ghost use Rattle.carried.specs.Image.{put};
 ghost use Rattle.o32.specs.Offsets.{extension};
 ghost use Rattle.o32.specs.O32.{carrier, carriers, floatBytes, run};
-ghost use Rattle.block.specs.Block.{blockBytes, whole};
+ghost use Rattle.block.specs.Block.{blockBytes, inWord, whole};
 ghost use Rattle.placement.specs.Fitting.{Fit, Floating};
 use o32::Class;
 use o32::Placement;
@@ -38,6 +38,33 @@ pub fn write_block(block: [u32; 8], out: &mut [u8])
     }
 }
 
+// How many bytes of a run are moved at once: all that are left, at most 512.
+fn part_length(left: usize) -> usize
+    ensures { λ r. ⌜ r ≡ min left 512 ⌝ }
+{
+    if left < 512 { left } else { 512 }
+}
+
+// At most 512 bytes of one slice into another, by way of an array: nothing overlaps an array, so the compiler makes one move of
+// the two loops.
+fn move_part(out: &mut [u8], to: usize, src: &[u8], at: usize, n: usize)
+    requires { ⌜ n ≤ 512 ⌝ }
+    requires { ⌜ (to + n ≤ length (now out)) × (at + n ≤ length (now src)) ⌝ }
+    ensures { λ _. ⌜ now (out .exit) ≡ put (now (out .entry)) (run to n) (take n (drop at (now (src .entry)))) ⌝ }
+{
+    let mut part = [0u8; 512];
+    let mut i = 0;
+    while i < n {
+        part[i] = src[at + i];
+        i += 1;
+    }
+    let mut j = 0;
+    while j < n {
+        out[to + j] = part[j];
+        j += 1;
+    }
+}
+
 // A run of bytes of one slice into another.
 pub fn copy(out: &mut [u8], to: usize, src: &[u8], at: usize, n: usize)
     requires { ⌜ (to + n ≤ length (now out)) × (at + n ≤ length (now src)) ⌝ }
@@ -49,8 +76,9 @@ pub fn copy(out: &mut [u8], to: usize, src: &[u8], at: usize, n: usize)
     }
     let mut i = 0;
     while i < n {
-        out[to + i] = src[at + i];
-        i += 1;
+        let m = part_length(n - i);
+        move_part(out, to + i, src, at + i, m);
+        i += m;
     }
 }
 
@@ -68,23 +96,67 @@ fn with_byte(w: u32, k: usize, b: u8) -> u32
     }
 }
 
-// Bytes of a list into the block, from its byte o on: whole words as long as four bytes are left, then single bytes.
+// A word with its first one to three bytes replaced by those of a list.
+fn with_start(w: u32, src: &[u8], at: usize, n: usize) -> u32
+    requires { ⌜ (1 ≤ n) × (n ≤ 3) ⌝ }
+    requires { ⌜ at + n ≤ length (now src) ⌝ }
+    ensures { λ r. ⌜ bytesOf 4 r ≡ put (bytesOf 4 w) (run 0 n) (take n (drop at (now (src .entry)))) ⌝ }
+{
+    let one = with_byte(w, 0, src[at]);
+    match n {
+        1 => one,
+        2 => with_byte(one, 1, src[at + 1]),
+        _ => with_byte(with_byte(one, 1, src[at + 1]), 2, src[at + 2]),
+    }
+}
+
+// The word at byte p of the block, once n bytes of a list are stored from the block's byte o on.
+fn low_word(w: u32, p: usize, o: usize, src: &[u8], at: usize, n: usize) -> u32
+    requires { ⌜ at + n ≤ length (now src) ⌝ }
+    ensures { λ r. ⌜ bytesOf 4 r ≡ put (bytesOf 4 w) (run 0 (inWord o n p)) (take (inWord o n p) (drop (at + (p - o)) (now (src .entry)))) ⌝ }
+{
+    if p < o {
+        return w;
+    }
+    let i = p - o;
+    if n <= i {
+        return w;
+    }
+    let left = n - i;
+    if left < 4 {
+        return with_start(w, src, at + i, left);
+    }
+    words::word_at(src, at + i)
+}
+
+// Bytes of a list into the block, from its byte o on, word by word. The index counts the words of `$4` to `$7`, so that the
+// compiler knows it at each turn and keeps the block in registers.
 fn put_low(block: [u32; 8], o: usize, src: &[u8], at: usize, n: usize) -> [u32; 8]
     requires { ⌜ o % 4 ≡ 0 ⌝ }
     requires { ⌜ (o + n ≤ 16) × (at + n ≤ length (now src)) ⌝ }
     ensures { λ r. ⌜ blockBytes r ≡ put (blockBytes block) (run o n) (take n (drop at (now (src .entry)))) ⌝ }
 {
     let mut next = block;
-    let mut i = 0;
-    while i < n {
-        let j = (o + i) / 4;
-        if n < i + 4 {
-            next[j] = with_byte(next[j], (o + i) % 4, src[at + i]);
-            i += 1;
-        } else {
-            next[j] = words::word_at(src, at + i);
-            i += 4;
+    let mut k = 0;
+    while k < 4 {
+        next[k] = low_word(next[k], 4 * k, o, src, at, n);
+        k += 1;
+    }
+    next
+}
+
+// The block with the word of `$4` + j replaced, by a known index at each turn as well.
+fn with_word(block: [u32; 8], j: usize, w: u32) -> [u32; 8]
+    requires { ⌜ j < 4 ⌝ }
+    ensures { λ r. ⌜ r ≡ set block j w ⌝ }
+{
+    let mut next = block;
+    let mut k = 0;
+    while k < 4 {
+        if k == j {
+            next[k] = w;
         }
+        k += 1;
     }
     next
 }
@@ -96,9 +168,7 @@ fn put_word(block: [u32; 8], out: &mut [u8], o: usize, w: u32) -> [u32; 8]
     ensures { λ r. ⌜ whole r (now (out .exit)) ≡ put (whole block (now (out .entry))) (map carrier (run o 4)) (bytesOf 4 w) ⌝ }
 {
     if o < 16 {
-        let mut next = block;
-        next[o / 4] = w;
-        return next;
+        return with_word(block, o / 4, w);
     }
     words::write_word(out, 32 + o, w);
     block

@@ -18,8 +18,7 @@ use Rattle.carried.specs.Image.{gather, put}
 use Rattle.carried.proofs.Places.{gather-append, put-append}
 use Rattle.o32.specs.O32.{run, registerBytes, carrier}
 use Rattle.placement.proofs.Laws.{length-run}
-use Rattle.block.proofs.Stores.{run-add}
-use Rattle.block.proofs.Spans.{span-low, span-high, span-split}
+use Rattle.placement.proofs.Runs.{run-add, span-low, span-high, span-split}
 
 -- ---- read at bytes that lie together
 

@@ -25,10 +25,11 @@ use Rattle.o32.specs.declared.Placement.{Placement}
 use Rattle.o32.specs.Kinds.{kindOf, is, classNumber}
 use Rattle.o32.specs.Offsets.{width, offset, ending}
 use Rattle.o32.specs.O32.{floatRegister, register, run, floatRegisters, registerBytes, floatBytes, carrier, carriers, misplaced, onward, placement, start, O32}
-use Rattle.placement.specs.Carrying.{endOf, registerBehind, CarriedAt}
-use Rattle.placement.proofs.KindFacts.{kind-sound}
+use Rattle.placement.specs.Carrying.{endOf, registerBehind, CarriedAt, InRuns}
+use Rattle.placement.proofs.KindFacts.{kind-sound, Structure, structure}
 use Rattle.placement.proofs.Steps.{Stepped, Says, says}
 use Rattle.placement.proofs.Laws.{O32-laws, span-outside, length-span, length-float}
+use Rattle.placement.proofs.Runs.{span-below, span-high}
 
 -- ---- the state behind some kinds
 
@@ -233,14 +234,36 @@ module _ (d : Device) (before : List ℕ) (k : ℕ) (s : Placed)
     even = λ f e h z i l. rw (← e) (in-register (omega arith) z 1 i (4 + i) (omega arith) l (omega arith));
   }
 
--- At every accepted signature, the record of every kind byte is carried so.
+-- At every accepted signature, the record of every kind byte is placed by the kinds before.
+placed-behind : (d : Device) (before : List ℕ) (k : ℕ) (behind : List ℕ) (L : List Placed) (last : State) → plan (O32 d) false (before ++ (k ∷ behind)) ≡ good L last
+    → (M : List Placed) (s : Placed) (N : List Placed) → L ≡ M ++ (s ∷ N) → length M ≡ length before
+    → s ≡ O32 d .placedAt k (record { kind = kindOf k; offset = offset (kindOf k) (endOf 0 before); register = registerBehind d before k })
+placed-behind d before k behind L last ok M s N e h =
+    let w : Walk (O32 d) (O32-laws d) start (before ++ (k ∷ behind)) L last = walk-of (O32 d) (O32-laws d) (before ++ (k ∷ behind)) start L last 0 ok in
+    placed-so d before start k behind L last w M s N e h
+    ∙ rw (reach-end before start, register-so d before k behind L last w)
+
+-- and so carried.
 pub carried-at : (d : Device) (before : List ℕ) (k : ℕ) (behind : List ℕ) (L : List Placed) (last : State) → plan (O32 d) false (before ++ (k ∷ behind)) ≡ good L last
     → (M : List Placed) (s : Placed) (N : List Placed) → L ≡ M ++ (s ∷ N) → length M ≡ length before → CarriedAt d before k s
-carried-at d before k behind L last ok M s N e h =
-    let w : Walk (O32 d) (O32-laws d) start (before ++ (k ∷ behind)) L last = walk-of (O32 d) (O32-laws d) (before ++ (k ∷ behind)) start L last 0 ok in
-    law d before k s
-    (placed-so d before start k behind L last w M s N e h
-    ∙ rw (reach-end before start, register-so d before k behind L last w))
+carried-at d before k behind L last ok M s N e h = law d before k s (placed-behind d before k behind L last ok M s N e h)
+
+-- A structure lies in runs.
+pub structure-in-runs : (d : Device) (before : List ℕ) (k : ℕ) (behind : List ℕ) (L : List Placed) (last : State) → plan (O32 d) false (before ++ (k ∷ behind)) ≡ good L last
+    → (M : List Placed) (s : Placed) (N : List Placed) → L ≡ M ++ (s ∷ N) → length M ≡ length before
+    → 0x40 ≤ k → InRuns (offset (kindOf k) (endOf 0 before)) (kindOf k .size) (s .carriers)
+structure-in-runs d before k behind L last ok M s N e h g =
+    let f : Structure (kindOf k) = structure k g in
+    let o = offset (kindOf k) (endOf 0 before) in
+    let n = kindOf k .size in
+    let c : s .carriers ≡ map carrier (run o n) =
+    by-offset d before k s (placed-behind d before k behind L last ok M s N e h) (no-register (registerBehind d before k) refl (f .no-float))
+    ∙ ap (λ (m : ℕ). map carrier (run o m)) (f .whole) in
+    record { below = λ l. c ∙ span-below n o l; behind = λ l. c ∙ span-high n o l }
+  where
+    no-register : (r : ℕ) → registerBehind d before k ≡ r → is Float (kindOf k) ≡ false → registerBehind d before k ≡ 0
+    no-register zero e f = e
+    no-register (suc r) e f = let z : true ≡ false = rw (floats-only d before k (omega arith)) at f in cc
 
 -- ---- without a floating-point unit
 

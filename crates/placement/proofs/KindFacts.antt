@@ -3,14 +3,16 @@
 use mathlib.Core.Path.{_≡_, refl}
 use mathlib.Core.Logic.{_⊎_, inl, inr}
 use mathlib.Core.List.{List, [], _∷_, _++_}
-use mathlib.Core.Bool.{Bool, true, false, not, _&&_, _||_, and-false}
+use mathlib.Core.Bool.{Bool, true, false, cond, not, _&&_, _||_, and-false}
 use Prim.Native.Nat.{ℕ, zero, suc, _≤_, _<_}
 use native.Mathlib.Omega.{arith}
 use lib.Dec.{T, eqb, leb, ltb, eqb→eq, leb→le, ltb→lt}
 use borrow.Author.Tests.{lt-leb, ltb-true, ltb-false, eqb-true, eqb-false}
-use Rattle.o32.specs.declared.Class.the-variants.{Unknown, Marker, Signed, Unsigned, Float}
+use lib.ListN.{take, drop}
+use Rattle.o32.specs.declared.Class.the-variants.{Unknown, Marker, Signed, Unsigned, Float, Plain}
 use Rattle.o32.specs.declared.Kind.{Kind}
-use Rattle.o32.specs.Kinds.{Row, row, table, look, kindOf, is}
+use Rattle.o32.specs.Kinds.{Row, row, table, look, kindOf, classNumber, is}
+use Rattle.o32.specs.Offsets.{width}
 
 -- the test
 abbrev implies : Bool → Bool → Bool
@@ -118,3 +120,27 @@ kind-sound k = go (ltb k 256) refl
     go : (u : Bool) → ltb k 256 ≡ u → Sound (kindOf k)
     go true e = tested (kindOf k) (below 256 k tt (ltb-true k 256 e))
     go false e = rw (look-past table [] 256 k tt (ltb-false k 256 e)) (tested (look k []) tt)
+
+-- ---- structures: kinds from 40 on
+
+abbrev plain : List Row → Bool
+plain [] = true
+plain (row first last size a c ∷ rows) = eqb (classNumber c) (classNumber Plain) && plain rows
+
+-- neither promoted nor for a floating register
+pub record Structure (k : Kind) : Type 0 where
+  pub whole : width k ≡ k .size
+  pub no-float : is Float k ≡ false
+
+of-plain : (rows : List Row) (k : ℕ) → T (plain rows) → Structure (look k rows)
+of-plain [] k t = record { whole = refl; no-float = refl }
+of-plain (row first last size a c ∷ rows) k t = go (leb first k && leb k last) (of-plain rows k (and-right (eqb (classNumber c) 6) (plain rows) t))
+  where
+    go : (u : Bool) → Structure (look k rows) → Structure (cond u (record { size = size k; alignment = a; class = c }) (look k rows))
+    go true rest =
+        let e : classNumber c ≡ 6 = eqb→eq (classNumber c) 6 (and-left (eqb (classNumber c) 6) (plain rows) t) in
+        record { whole = rw e refl; no-float = rw e refl }
+    go false rest = rest
+
+pub structure : (k : ℕ) → 64 ≤ k → Structure (kindOf k)
+structure k h = rw (look-past (take 10 table) (drop 10 table) 64 k tt h) (of-plain (drop 10 table) k tt)

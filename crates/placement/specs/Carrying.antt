@@ -1,8 +1,8 @@
 -- Which image byte carries which byte of an argument, said of the kinds that stand before it ("The image").
 use mathlib.Core.Path.{_≡_}
-use mathlib.Core.List.{List, [], _∷_}
+use mathlib.Core.List.{List, [], _∷_, _++_}
 use mathlib.Core.Bool.{cond, _&&_}
-use Prim.Native.Nat.{ℕ, _+_, _-_, _*_, _≤_, _<_}
+use Prim.Native.Nat.{ℕ, _+_, _-_, _*_, _≤_, _<_, min}
 use lib.ListN.{length, getD}
 use Rattle.device.specs.declared.Device.{Device}
 use Rattle.device.specs.declared.Device.the-variants.{Fpu, NoFpu}
@@ -10,6 +10,7 @@ use Rattle.carried.specs.Image.{Placed}
 use Rattle.o32.specs.declared.Class.the-variants.{Marker, Float}
 use Rattle.o32.specs.Kinds.{kindOf, is}
 use Rattle.o32.specs.Offsets.{extension, width, offset, ending}
+use Rattle.o32.specs.O32.{run}
 
 -- Rule 2. Where the arguments of these kinds end, the first laid from this end on. A marker is no argument.
 abbrev pub endOf : ℕ → List ℕ → ℕ
@@ -42,3 +43,9 @@ pub record CarriedAt (d : Device) (before : List ℕ) (k : ℕ) (s : Placed) : T
       → (i : ℕ) → i < 4 → getD (s .carriers) i 0 ≡ 16 + 4 * (f + 1 - 12) + i
   pub even : (f : ℕ) → registerBehind d before k ≡ f → 1 ≤ f → kindOf k .size ≡ 8
       → (i : ℕ) → i < 4 → getD (s .carriers) (4 + i) 0 ≡ 16 + 4 * (f - 12) + i
+
+-- Request (iii) of document 02, of the image bytes that carry a structure of n bytes: "of a structure at offset o below 16, the
+-- first 16 - o bytes (all, if fewer) lie together from image byte o and the rest from 48; from o = 16 on, all lie from 32 + o."
+pub record InRuns (o n : ℕ) (carriers : List ℕ) : Type 0 where
+  pub below : o < 16 → carriers ≡ run o (min (16 - o) n) ++ run 48 (n - (16 - o))
+  pub behind : 16 ≤ o → carriers ≡ run (32 + o) n

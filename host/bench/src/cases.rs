@@ -2,13 +2,15 @@
 
 use std::hint::black_box;
 
+use crate::memory::Memory;
+
 /// Enough for every image, list and code.
 const ROOM: usize = 1100;
 
 /// One call, with its inputs.
 pub enum Call {
-    Write { list: Vec<u8> },
-    Read { signature: Vec<u8>, image: Vec<u8> },
+    Write { list: Memory },
+    Read { signature: Memory, image: Memory },
     Prologue(o32::Request),
     Epilogue(o32::Request),
 }
@@ -17,7 +19,7 @@ pub enum Call {
 pub struct Case {
     pub name: String,
     call: Call,
-    result: Vec<u8>,
+    result: Memory,
 }
 
 impl Case {
@@ -25,12 +27,11 @@ impl Case {
         let mut case = Case {
             name,
             call,
-            result: vec![0; ROOM],
+            result: Memory::input(&[]),
         };
-        let mut result = vec![0; ROOM];
-        let length = case.run_model(&mut result);
-        result.truncate(length as usize);
-        case.result = result;
+        let mut buffer = case.buffer();
+        let length = case.run_model(&mut buffer);
+        case.result = Memory::input(&buffer[..length as usize]);
         case
     }
 
@@ -40,8 +41,8 @@ impl Case {
     }
 
     /// A buffer for the results of one of the three.
-    pub fn buffer(&self) -> Vec<u8> {
-        vec![0; ROOM]
+    pub fn buffer(&self) -> Memory {
+        Memory::buffer(ROOM)
     }
 
     /// A time says nothing unless the results agree.
@@ -49,7 +50,7 @@ impl Case {
         assert!(!self.result.is_empty(), "{}: refused", self.name);
         let mut buffer = self.buffer();
         let length = self.run_o32(&mut buffer);
-        assert_eq!(&buffer[..length as usize], self.result, "{}", self.name);
+        assert_eq!(buffer[..length as usize], self.result[..], "{}", self.name);
     }
 
     #[inline]
@@ -174,13 +175,15 @@ fn image_of(list: &[u8]) -> Vec<u8> {
 pub fn all() -> Vec<Case> {
     let lists = lists();
     let writes = lists.iter().map(|(name, list, _)| {
-        let call = Call::Write { list: list.clone() };
+        let call = Call::Write {
+            list: Memory::input(list),
+        };
         Case::new(format!("write, {name}"), call)
     });
     let reads = lists.iter().map(|(name, list, signature)| {
         let call = Call::Read {
-            signature: signature.clone(),
-            image: image_of(list),
+            signature: Memory::input(signature),
+            image: Memory::input(&image_of(list)),
         };
         Case::new(format!("read, {name}"), call)
     });

@@ -2,10 +2,11 @@
 //! copy of as many bytes as the result has.
 //!
 //! The three take turns in every round, on the same inputs and into buffers of
-//! their own. The buffers aren't cleared between calls: every call overwrites
-//! the result of the one before.
+//! their own, each at the same place in a page. The buffers aren't cleared
+//! between calls: every call overwrites the result of the one before.
 
 mod cases;
+mod memory;
 mod timing;
 
 use cases::Case;

@@ -4,6 +4,7 @@ use std::hint::black_box;
 use std::time::{Duration, Instant};
 
 use crate::cases::Case;
+use crate::memory::Memory;
 
 /// Rounds of each case; their times make the spread.
 const ROUNDS: usize = 301;
@@ -50,7 +51,7 @@ pub fn measure(case: &Case) -> [Spread; 3] {
 
 struct Contestant {
     runner: Runner,
-    buffer: Vec<u8>,
+    buffer: Memory,
     calls: u32,
     times: Vec<f64>,
 }

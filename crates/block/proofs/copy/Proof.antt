@@ -4,10 +4,10 @@ use native.Mathlib.Omega.{arith}
 use mathlib.Core.Path.{_≡_, refl, ap, _∙_}
 use Prim.Native.Nat.{ℕ, _-_, _≤_}
 use denote.Ref.{now}
-use lib.ListN.{length, take, drop, length-set}
+use lib.ListN.{length, take, drop}
 use Rattle.carried.specs.Image.{put}
 use Rattle.o32.specs.O32.{run}
-use Rattle.block.proofs.Stores.{word-copied, store-next}
+use Rattle.block.proofs.Stores.{word-copied, more-stored}
 use borrow.Author.Needs.{needs}
 use Rattle.block.proofs.copy.Statement.{statement}
 use Rattle.block.proofs.copy.Tie as tie
@@ -36,29 +36,32 @@ returns c =
 loop-holds : tie.Need-loop-holds Inv-loop μ-loop
 loop-holds c = (omega arith, refl, refl)
 
-add-out : tie.Need-add-out Inv-loop μ-loop
-add-out c = omega arith
+sub-part-length : tie.Need-sub-part-length Inv-loop μ-loop
+sub-part-length c = search needs
 
-shared-slice-read-out : tie.Need-shared-slice-read-out Inv-loop μ-loop
-shared-slice-read-out c = omega arith
+part-length-requires : tie.Need-part-length-requires Inv-loop μ-loop
+part-length-requires c κs = search needs
 
-add-out-2 : tie.Need-add-out-2 Inv-loop μ-loop
-add-out-2 c = omega arith
+add-move-part : tie.Need-add-move-part Inv-loop μ-loop
+add-move-part c = search needs
 
-slice-write-out : tie.Need-slice-write-out Inv-loop μ-loop
-slice-write-out c = omega arith
+add-move-part-2 : tie.Need-add-move-part-2 Inv-loop μ-loop
+add-move-part-2 c = search needs
+
+move-part-requires : tie.Need-move-part-requires Inv-loop μ-loop
+move-part-requires c κs = search needs
 
 add-i : tie.Need-add-i Inv-loop μ-loop
-add-i c = omega arith
+add-i c = search needs
 
 loop-less : tie.Need-loop-less Inv-loop μ-loop
-loop-less c = omega arith
+loop-less c = search needs
 
 loop-again : tie.Need-loop-again Inv-loop μ-loop
 loop-again c =
-    let a = c .before .before .before .before .before .before .args in
-    let l = c .before .before .loop in
-    (omega arith, simp length-set (l .inv .1), rw (l .inv .2) (store-next (now (a .out)) (now (a .src)) (a .to) (a .at) (l .i) (omega arith)))
+    let a = c .before .before .before .before .before .before .before .before .before .before .args in
+    let l = c .before .before .before .before .before .before .loop in
+    (omega arith, omega arith, more-stored (now (a .out)) (now (a .src)) (a .to) (a .at) (l .i) _ (omega arith) (l .inv .2) (c .before .before .move-part .ensures))
 
 same-length-2 : tie.Need-same-length-2 Inv-loop μ-loop
 same-length-2 c = c .before .loop .inv .1
@@ -81,10 +84,11 @@ copy-spec =
     same-length
     returns
     loop-holds
-    add-out
-    shared-slice-read-out
-    add-out-2
-    slice-write-out
+    sub-part-length
+    part-length-requires
+    add-move-part
+    add-move-part-2
+    move-part-requires
     add-i
     loop-less
     loop-again

@@ -10,17 +10,14 @@ use borrow.Author.Needs.{needs}
 use Rattle.block.proofs.put_word.Statement.{statement}
 use Rattle.block.proofs.put_word.Tie as tie
 
-mul-next : tie.Need-mul-next
-mul-next c = search needs
-
-array-write-next : tie.Need-array-write-next
-array-write-next c = search needs
+with-word-requires : tie.Need-with-word-requires
+with-word-requires c κs = search needs
 
 returns : tie.Need-returns
 returns c =
-    let s = c .before .before in
+    let s = c .before .before .before in
     let h : length (s .args .block) ≡ 8 = omega (arith, s .good) in
-    word-low (s .args .block) h (now (s .args .out)) (s .args .o) (s .args .w) (omega arith) (omega arith)
+    rw (c .with-word .ensures) (word-low (s .args .block) h (now (s .args .out)) (s .args .o) (s .args .w) (omega arith) (omega arith))
 
 add-write-word : tie.Need-add-write-word
 add-write-word c = search needs
@@ -40,11 +37,4 @@ returns-2 c =
 pub put-word-spec : {M : Type 1} → statement M
 put-word-spec =
     tie.close
-    (tie.spec
-    mul-next
-    array-write-next
-    returns
-    add-write-word
-    write-word-requires
-    same-length
-    returns-2)
+    (tie.spec with-word-requires returns add-write-word write-word-requires same-length returns-2)
