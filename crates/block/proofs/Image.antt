@@ -5,7 +5,6 @@ use mathlib.Core.List.{List, [], _∷_, _++_, append-assoc, map}
 use Prim.Native.Nat.{ℕ, zero, suc, _+_, _-_, _*_, _/_, _%_, _≤_, _<_}
 use native.Mathlib.Omega.{arith}
 use native.Mathlib.Numerals.{add-one}
-use native.Mathlib.Nat.{add-zero}
 use lib.ListN.{length, getD, set, take, drop, length-drop}
 use lib.Seq.{length-take-le, take-suc, drop-drop}
 use Rattle.words.specs.Words.{bytesOf}
@@ -26,35 +25,22 @@ block-append : (a b : List ℕ) → blockBytes (a ++ b) ≡ blockBytes a ++ bloc
 block-append [] b = refl
 block-append (w ∷ ws) b = rw (block-append ws b, append-assoc)
 
--- n bytes of a word changed, from its byte k on
-word-changed : (ws : List ℕ) (j w k n : ℕ) (vs : List ℕ) → j < length ws → k + n ≤ 4 → bytesOf 4 w ≡ put (bytesOf 4 (getD ws j 0)) (run k n) vs
-    → blockBytes (set ws j w) ≡ put (blockBytes ws) (run (4 * j + k) n) vs
-word-changed [] j w k n vs h g e = absurd (omega arith)
-word-changed (x ∷ ws) zero w k n vs h g e =
-    let i : 4 * 0 + k ≡ k = omega arith in
-    ap (λ (l : List ℕ). l ++ blockBytes ws) e
-    ∙ sym (put-left n k (bytesOf 4 x) (blockBytes ws) vs g)
-    ∙ ap (λ (p : ℕ). put (blockBytes (x ∷ ws)) (run p n) vs) (sym i)
-word-changed (x ∷ ws) (suc j) w k n vs h g e =
-    let i : 4 * suc j + k ≡ 4 + (4 * j + k) = omega arith in
-    ap (λ (l : List ℕ). bytesOf 4 x ++ l) (word-changed ws j w k n vs (omega arith) g e)
-    ∙ sym (put-right n (4 * j + k) (bytesOf 4 x) (blockBytes ws) vs)
-    ∙ ap (λ (p : ℕ). put (blockBytes (x ∷ ws)) (run p n) vs) (sym i)
-
--- n bytes of it from its first on
+-- n bytes of a word changed, from its first on
 pub word-start : (ws : List ℕ) (j w n : ℕ) (vs : List ℕ) → j < length ws → n ≤ 4 → bytesOf 4 w ≡ put (bytesOf 4 (getD ws j 0)) (run 0 n) vs
     → blockBytes (set ws j w) ≡ put (blockBytes ws) (run (4 * j) n) vs
-word-start ws j w n vs h g e = word-changed ws j w 0 n vs h (omega arith) e ∙ rw add-zero
+word-start [] j w n vs h g e = absurd (omega arith)
+word-start (x ∷ ws) zero w n vs h g e =
+    ap (λ (l : List ℕ). l ++ blockBytes ws) e
+    ∙ sym (put-left n 0 (bytesOf 4 x) (blockBytes ws) vs (omega arith))
+word-start (x ∷ ws) (suc j) w n vs h g e =
+    let i : 4 * suc j ≡ 4 + 4 * j = omega arith in
+    ap (λ (l : List ℕ). bytesOf 4 x ++ l) (word-start ws j w n vs (omega arith) g e)
+    ∙ sym (put-right n (4 * j) (bytesOf 4 x) (blockBytes ws) vs)
+    ∙ ap (λ (p : ℕ). put (blockBytes (x ∷ ws)) (run p n) vs) (sym i)
 
 -- all of it
 pub word-stored : (ws : List ℕ) (j w : ℕ) → j < length ws → blockBytes (set ws j w) ≡ put (blockBytes ws) (run (4 * j) 4) (bytesOf 4 w)
-word-stored ws j w h = word-changed ws j w 0 4 (bytesOf 4 w) h (omega arith) refl ∙ rw add-zero
-
--- by the place of its first byte
-pub word-stored-at : (ws : List ℕ) (p w : ℕ) (vs : List ℕ) → p / 4 < length ws → p % 4 ≡ 0 → bytesOf 4 w ≡ vs → blockBytes (set ws (p / 4) w) ≡ put (blockBytes ws) (run p 4) vs
-word-stored-at ws p w vs h k f =
-    let e : 4 * (p / 4) ≡ p = omega arith in
-    word-stored ws (p / 4) w h ∙ ap₂ (λ (q : ℕ) (us : List ℕ). put (blockBytes ws) (run q 4) us) e f
+word-stored ws j w h = word-start ws j w 4 (bytesOf 4 w) h (omega arith) refl
 
 -- a turn of a loop that writes the block's words over a buffer
 pub word-next : (ws out : List ℕ) (i : ℕ) → i < length ws → (i + 1) * 4 ≤ length out
@@ -89,7 +75,10 @@ module _ (block : List ℕ) (words : length block ≡ 8) where
 
   -- a word in the block
   pub word-low : (out : List ℕ) (o w : ℕ) → o < 16 → o % 4 ≡ 0 → whole (set block (o / 4) w) out ≡ put (whole block out) (map carrier (run o 4)) (bytesOf 4 w)
-  word-low out o w h k = laid-low (set block (o / 4) w) out 4 o (bytesOf 4 w) (omega arith) (word-stored-at block o w (bytesOf 4 w) (omega arith) k refl)
+  word-low out o w h k =
+      let e : 4 * (o / 4) ≡ o = omega arith in
+      laid-low (set block (o / 4) w) out 4 o (bytesOf 4 w) (omega arith)
+      (word-stored block (o / 4) w (omega arith) ∙ ap (λ (q : ℕ). put (blockBytes block) (run q 4) (bytesOf 4 w)) e)
 
 -- or in both
 pub laid-split : (block r out out′ src : List ℕ) (n o at : ℕ) → length block ≡ 8 → length r ≡ 8 → o ≤ 16 → 16 ≤ o + n → at + n ≤ length src

@@ -14,6 +14,6 @@ blockBytes (w ∷ ws) = bytesOf 4 w ++ blockBytes ws
 abbrev pub whole : List ℕ → List ℕ → List ℕ
 whole block out = blockBytes block ++ drop 32 out
 
--- How many of n bytes from byte o on are in the word at byte p, where o and p are multiples of 4.
-abbrev pub inWord : ℕ → ℕ → ℕ → ℕ
-inWord o n p = cond (ltb p o) 0 (min 4 (n - (p - o)))
+-- Rule 4 word by word: how many of n bytes at offset o are in the word at offset p, where o and p are multiples of 4.
+abbrev pub bytesInWord : ℕ → ℕ → ℕ → ℕ
+bytesInWord o n p = cond (ltb p o) 0 (min 4 (n - (p - o)))

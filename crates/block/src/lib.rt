@@ -8,7 +8,7 @@ ghost use Rattle.words.specs.Words.{bytesOf, promote, toWord};
 ghost use Rattle.carried.specs.Image.{put};
 ghost use Rattle.o32.specs.Offsets.{extension};
 ghost use Rattle.o32.specs.O32.{carrier, carriers, floatBytes, run};
-ghost use Rattle.block.specs.Block.{blockBytes, inWord, whole};
+ghost use Rattle.block.specs.Block.{blockBytes, bytesInWord, whole};
 ghost use Rattle.placement.specs.Fitting.{Fit, Floating};
 use o32::Class;
 use o32::Placement;
@@ -38,29 +38,29 @@ pub fn write_block(block: [u32; 8], out: &mut [u8])
     }
 }
 
-// How many bytes of a run are moved at once: all that are left, at most 512.
-fn part_length(left: usize) -> usize
+// How many bytes of a run are moved at once: 512 are the longest body, and a longer run takes several turns.
+fn chunk_length(left: usize) -> usize
     ensures { λ r. ⌜ r ≡ min left 512 ⌝ }
 {
     if left < 512 { left } else { 512 }
 }
 
-// At most 512 bytes of one slice into another, by way of an array: nothing overlaps an array, so the compiler makes one move of
-// the two loops.
-fn move_part(out: &mut [u8], to: usize, src: &[u8], at: usize, n: usize)
+// At most 512 bytes of one slice into another, by way of an array. The compiler cannot tell whether two slices overlap; the
+// array overlaps neither, so it makes one move of the two loops and keeps no array.
+fn move_chunk(out: &mut [u8], to: usize, src: &[u8], at: usize, n: usize)
     requires { ⌜ n ≤ 512 ⌝ }
     requires { ⌜ (to + n ≤ length (now out)) × (at + n ≤ length (now src)) ⌝ }
     ensures { λ _. ⌜ now (out .exit) ≡ put (now (out .entry)) (run to n) (take n (drop at (now (src .entry)))) ⌝ }
 {
-    let mut part = [0u8; 512];
+    let mut chunk = [0u8; 512];
     let mut i = 0;
     while i < n {
-        part[i] = src[at + i];
+        chunk[i] = src[at + i];
         i += 1;
     }
     let mut j = 0;
     while j < n {
-        out[to + j] = part[j];
+        out[to + j] = chunk[j];
         j += 1;
     }
 }
@@ -76,8 +76,8 @@ pub fn copy(out: &mut [u8], to: usize, src: &[u8], at: usize, n: usize)
     }
     let mut i = 0;
     while i < n {
-        let m = part_length(n - i);
-        move_part(out, to + i, src, at + i, m);
+        let m = chunk_length(n - i);
+        move_chunk(out, to + i, src, at + i, m);
         i += m;
     }
 }
@@ -96,24 +96,27 @@ fn with_byte(w: u32, k: usize, b: u8) -> u32
     }
 }
 
-// A word with its first one to three bytes replaced by those of a list.
+// A word with its first one to three bytes replaced by those of a list. The last of them first: else the compiler shares the load
+// of the first byte with `low_word`, and loads whole words by the byte as well.
 fn with_start(w: u32, src: &[u8], at: usize, n: usize) -> u32
     requires { ⌜ (1 ≤ n) × (n ≤ 3) ⌝ }
     requires { ⌜ at + n ≤ length (now src) ⌝ }
     ensures { λ r. ⌜ bytesOf 4 r ≡ put (bytesOf 4 w) (run 0 n) (take n (drop at (now (src .entry)))) ⌝ }
 {
-    let one = with_byte(w, 0, src[at]);
-    match n {
-        1 => one,
-        2 => with_byte(one, 1, src[at + 1]),
-        _ => with_byte(with_byte(one, 1, src[at + 1]), 2, src[at + 2]),
+    let mut next = w;
+    if 2 < n {
+        next = with_byte(next, 2, src[at + 2]);
     }
+    if 1 < n {
+        next = with_byte(next, 1, src[at + 1]);
+    }
+    with_byte(next, 0, src[at])
 }
 
-// The word at byte p of the block, once n bytes of a list are stored from the block's byte o on.
+// The block's word at byte p, so far w, once n bytes of a list are stored from byte o on; o and p are multiples of 4.
 fn low_word(w: u32, p: usize, o: usize, src: &[u8], at: usize, n: usize) -> u32
     requires { ⌜ at + n ≤ length (now src) ⌝ }
-    ensures { λ r. ⌜ bytesOf 4 r ≡ put (bytesOf 4 w) (run 0 (inWord o n p)) (take (inWord o n p) (drop (at + (p - o)) (now (src .entry)))) ⌝ }
+    ensures { λ r. ⌜ bytesOf 4 r ≡ put (bytesOf 4 w) (run 0 (bytesInWord o n p)) (take (bytesInWord o n p) (drop (at + (p - o)) (now (src .entry)))) ⌝ }
 {
     if p < o {
         return w;
@@ -129,8 +132,8 @@ fn low_word(w: u32, p: usize, o: usize, src: &[u8], at: usize, n: usize) -> u32
     words::word_at(src, at + i)
 }
 
-// Bytes of a list into the block, from its byte o on, word by word. The index counts the words of `$4` to `$7`, so that the
-// compiler knows it at each turn and keeps the block in registers.
+// Bytes of a list into the block, from its byte o on, word by word. The loop counts the words of `$4` to `$7`, and not those from
+// o on: at an index that the compiler does not know it stores the word to memory and loads the block again, and has to wait.
 fn put_low(block: [u32; 8], o: usize, src: &[u8], at: usize, n: usize) -> [u32; 8]
     requires { ⌜ o % 4 ≡ 0 ⌝ }
     requires { ⌜ (o + n ≤ 16) × (at + n ≤ length (now src)) ⌝ }
@@ -145,18 +148,17 @@ fn put_low(block: [u32; 8], o: usize, src: &[u8], at: usize, n: usize) -> [u32; 
     next
 }
 
-// The block with the word of `$4` + j replaced, by a known index at each turn as well.
+// The block with the word of register 4 + j replaced, at an index that the compiler knows, as in `put_low`.
 fn with_word(block: [u32; 8], j: usize, w: u32) -> [u32; 8]
     requires { ⌜ j < 4 ⌝ }
     ensures { λ r. ⌜ r ≡ set block j w ⌝ }
 {
     let mut next = block;
-    let mut k = 0;
-    while k < 4 {
-        if k == j {
-            next[k] = w;
-        }
-        k += 1;
+    match j {
+        0 => next[0] = w,
+        1 => next[1] = w,
+        2 => next[2] = w,
+        _ => next[3] = w,
     }
     next
 }

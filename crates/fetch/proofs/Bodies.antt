@@ -18,7 +18,7 @@ use Rattle.o32.specs.Kinds.{is}
 use Rattle.o32.specs.Offsets.{extension, width}
 use Rattle.o32.specs.O32.{run, floatBytes, carrier, carriers}
 use Rattle.placement.proofs.Laws.{length-span, length-float}
-use Rattle.placement.proofs.Carrying.{float-width}
+use Rattle.placement.proofs.KindFacts.{float-width}
 use Rattle.placement.specs.Fitting.{Fit, Floating}
 use Rattle.block.proofs.Floats.{bounds}
 use Rattle.block.proofs.Arguments.{Worded, Plain, body-fits}

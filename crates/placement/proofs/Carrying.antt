@@ -10,7 +10,7 @@ use native.Mathlib.Nat.{zero-add}
 use lib.ListN.{length, getD, List·getD-append}
 use lib.Seq.{getD-append-add}
 use lib.Dec.{eqb}
-use borrow.Author.Tests.{lt-ltb, le-ltb, ne-eqb, eqb-true}
+use borrow.Author.Tests.{lt-ltb, le-ltb, ne-eqb}
 use Rattle.device.specs.declared.Device.{Device}
 use Rattle.device.specs.declared.Device.the-variants.{Fpu, NoFpu}
 use Rattle.carried.specs.Image.{Placed, carried}
@@ -22,13 +22,13 @@ use Rattle.o32.specs.declared.Class.the-variants.{Marker, Float}
 use Rattle.o32.specs.declared.Kind.{Kind}
 use Rattle.o32.specs.declared.State.{State}
 use Rattle.o32.specs.declared.Placement.{Placement}
-use Rattle.o32.specs.Kinds.{kindOf, is, classNumber}
+use Rattle.o32.specs.Kinds.{kindOf, is}
 use Rattle.o32.specs.Offsets.{width, offset, ending}
 use Rattle.o32.specs.O32.{floatRegister, register, run, floatRegisters, registerBytes, floatBytes, carrier, carriers, misplaced, onward, placement, start, O32}
 use Rattle.placement.specs.Carrying.{endOf, registerBehind, CarriedAt, InRuns}
-use Rattle.placement.proofs.KindFacts.{kind-sound, Structure, structure}
+use Rattle.placement.proofs.KindFacts.{kind-sound, structure, unpromoted-width, float-width}
 use Rattle.placement.proofs.Steps.{Stepped, Says, says}
-use Rattle.placement.proofs.Laws.{O32-laws, span-outside, length-span, length-float}
+use Rattle.placement.proofs.Laws.{O32-laws, span, span-outside, length-span, length-float}
 use Rattle.placement.proofs.Runs.{span-below, span-high}
 
 -- ---- the state behind some kinds
@@ -186,9 +186,6 @@ floats-only Fpu (j ∷ []) k h = go (is Float (kindOf j)) (is Float (kindOf k)) 
     go false false h = absurd (omega arith)
 floats-only Fpu (j ∷ i ∷ js) k h = absurd (omega arith)
 
-pub float-width : (k : Kind) → is Float k ≡ true → width k ≡ k .size
-float-width k e = rw (eqb-true (classNumber (k .class)) 5 e)
-
 -- ---- the law
 
 module _ (d : Device) (before : List ℕ) (k : ℕ) (s : Placed)
@@ -234,7 +231,7 @@ module _ (d : Device) (before : List ℕ) (k : ℕ) (s : Placed)
     even = λ f e h z i l. rw (← e) (in-register (omega arith) z 1 i (4 + i) (omega arith) l (omega arith));
   }
 
--- At every accepted signature, the record of every kind byte is placed by the kinds before.
+-- At every accepted signature, the record of every kind byte is placed by the kinds before,
 placed-behind : (d : Device) (before : List ℕ) (k : ℕ) (behind : List ℕ) (L : List Placed) (last : State) → plan (O32 d) false (before ++ (k ∷ behind)) ≡ good L last
     → (M : List Placed) (s : Placed) (N : List Placed) → L ≡ M ++ (s ∷ N) → length M ≡ length before
     → s ≡ O32 d .placedAt k (record { kind = kindOf k; offset = offset (kindOf k) (endOf 0 before); register = registerBehind d before k })
@@ -243,27 +240,28 @@ placed-behind d before k behind L last ok M s N e h =
     placed-so d before start k behind L last w M s N e h
     ∙ rw (reach-end before start, register-so d before k behind L last w)
 
--- and so carried.
+-- and is carried as `CarriedAt` says.
 pub carried-at : (d : Device) (before : List ℕ) (k : ℕ) (behind : List ℕ) (L : List Placed) (last : State) → plan (O32 d) false (before ++ (k ∷ behind)) ≡ good L last
     → (M : List Placed) (s : Placed) (N : List Placed) → L ≡ M ++ (s ∷ N) → length M ≡ length before → CarriedAt d before k s
 carried-at d before k behind L last ok M s N e h = law d before k s (placed-behind d before k behind L last ok M s N e h)
 
--- A structure lies in runs.
+-- Request (iii) of document 02: at every accepted signature, on every device, a structure lies in the runs of `InRuns`.
 pub structure-in-runs : (d : Device) (before : List ℕ) (k : ℕ) (behind : List ℕ) (L : List Placed) (last : State) → plan (O32 d) false (before ++ (k ∷ behind)) ≡ good L last
-    → (M : List Placed) (s : Placed) (N : List Placed) → L ≡ M ++ (s ∷ N) → length M ≡ length before
-    → 0x40 ≤ k → InRuns (offset (kindOf k) (endOf 0 before)) (kindOf k .size) (s .carriers)
-structure-in-runs d before k behind L last ok M s N e h g =
-    let f : Structure (kindOf k) = structure k g in
-    let o = offset (kindOf k) (endOf 0 before) in
-    let n = kindOf k .size in
-    let c : s .carriers ≡ map carrier (run o n) =
-    by-offset d before k s (placed-behind d before k behind L last ok M s N e h) (no-register (registerBehind d before k) refl (f .no-float))
-    ∙ ap (λ (m : ℕ). map carrier (run o m)) (f .whole) in
-    record { below = λ l. c ∙ span-below n o l; behind = λ l. c ∙ span-high n o l }
+    → (M : List Placed) (s : Placed) (N : List Placed) → L ≡ M ++ (s ∷ N) → length M ≡ length before → InRuns before k s
+structure-in-runs d before k behind L last ok M s N e h = record {
+  below = λ g o n x y l. cs g o n x y ∙ span-below n o l;
+  behind = λ g o n x y l. cs g o n x y ∙ span-high n o l;
+}
   where
     no-register : (r : ℕ) → registerBehind d before k ≡ r → is Float (kindOf k) ≡ false → registerBehind d before k ≡ 0
     no-register zero e f = e
     no-register (suc r) e f = let z : true ≡ false = rw (floats-only d before k (omega arith)) at f in cc
+
+    cs : 0x40 ≤ k → (o n : ℕ) → o ≡ offset (kindOf k) (endOf 0 before) → n ≡ kindOf k .size → s .carriers ≡ span o n
+    cs g o n x y =
+        by-offset d before k s (placed-behind d before k behind L last ok M s N e h)
+        (no-register (registerBehind d before k) refl (structure k g .no-float))
+        ∙ rw (x, y) (ap (span (offset (kindOf k) (endOf 0 before))) (unpromoted-width (kindOf k) (structure k g .unpromoted)))
 
 -- ---- without a floating-point unit
 

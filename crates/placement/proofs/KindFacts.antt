@@ -1,4 +1,4 @@
--- Facts of all kinds: one test, computed over the 256 kind bytes, and what it says of each.
+-- Facts of all kinds: one test, computed over the 256 kind bytes, and what it says of each; and of the kinds of structures.
 -- Assumes nothing.
 use mathlib.Core.Path.{_≡_, refl}
 use mathlib.Core.Logic.{_⊎_, inl, inr}
@@ -121,26 +121,38 @@ kind-sound k = go (ltb k 256) refl
     go true e = tested (kindOf k) (below 256 k tt (ltb-true k 256 e))
     go false e = rw (look-past table [] 256 k tt (ltb-false k 256 e)) (tested (look k []) tt)
 
--- ---- structures: kinds from 40 on
+-- ---- structures
 
+-- what is neither promoted nor for a floating register
+pub record ByOffset (k : Kind) : Type 0 where
+  pub unpromoted : is Signed k || is Unsigned k ≡ false
+  pub no-float : is Float k ≡ false
+
+-- rows of structures and words
 abbrev plain : List Row → Bool
 plain [] = true
 plain (row first last size a c ∷ rows) = eqb (classNumber c) (classNumber Plain) && plain rows
 
--- neither promoted nor for a floating register
-pub record Structure (k : Kind) : Type 0 where
-  pub whole : width k ≡ k .size
-  pub no-float : is Float k ≡ false
-
-of-plain : (rows : List Row) (k : ℕ) → T (plain rows) → Structure (look k rows)
-of-plain [] k t = record { whole = refl; no-float = refl }
-of-plain (row first last size a c ∷ rows) k t = go (leb first k && leb k last) (of-plain rows k (and-right (eqb (classNumber c) 6) (plain rows) t))
+-- a kind of such rows, or of none
+of-plain : (rows : List Row) (k : ℕ) → T (plain rows) → ByOffset (look k rows)
+of-plain [] k t = record { unpromoted = refl; no-float = refl }
+of-plain (row first last size a c ∷ rows) k t =
+    go (leb first k && leb k last) (of-plain rows k (and-right (eqb (classNumber c) (classNumber Plain)) (plain rows) t))
   where
-    go : (u : Bool) → Structure (look k rows) → Structure (cond u (record { size = size k; alignment = a; class = c }) (look k rows))
+    go : (u : Bool) → ByOffset (look k rows) → ByOffset (cond u (record { size = size k; alignment = a; class = c }) (look k rows))
     go true rest =
-        let e : classNumber c ≡ 6 = eqb→eq (classNumber c) 6 (and-left (eqb (classNumber c) 6) (plain rows) t) in
-        record { whole = rw e refl; no-float = rw e refl }
+        let e : classNumber c ≡ classNumber Plain = eqb→eq (classNumber c) 6 (and-left (eqb (classNumber c) 6) (plain rows) t) in
+        record { unpromoted = rw e refl; no-float = rw e refl }
     go false rest = rest
 
-pub structure : (k : ℕ) → 64 ≤ k → Structure (kindOf k)
-structure k h = rw (look-past (take 10 table) (drop 10 table) 64 k tt h) (of-plain (drop 10 table) k tt)
+-- the last three rows of the table, from kind 40 on
+pub structure : (k : ℕ) → 0x40 ≤ k → ByOffset (kindOf k)
+structure k h = rw (look-past (take 10 table) (drop 10 table) 0x40 k tt h) (of-plain (drop 10 table) k tt)
+
+-- ---- bytes after promotion
+
+pub unpromoted-width : (k : Kind) → is Signed k || is Unsigned k ≡ false → width k ≡ k .size
+unpromoted-width k e = rw e
+
+pub float-width : (k : Kind) → is Float k ≡ true → width k ≡ k .size
+float-width k e = unpromoted-width k (rw (eqb-true (classNumber (k .class)) 5 e))

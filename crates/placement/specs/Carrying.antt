@@ -44,8 +44,10 @@ pub record CarriedAt (d : Device) (before : List ℕ) (k : ℕ) (s : Placed) : T
   pub even : (f : ℕ) → registerBehind d before k ≡ f → 1 ≤ f → kindOf k .size ≡ 8
       → (i : ℕ) → i < 4 → getD (s .carriers) (4 + i) 0 ≡ 16 + 4 * (f - 12) + i
 
--- Request (iii) of document 02, of the image bytes that carry a structure of n bytes: "of a structure at offset o below 16, the
--- first 16 - o bytes (all, if fewer) lie together from image byte o and the rest from 48; from o = 16 on, all lie from 32 + o."
-pub record InRuns (o n : ℕ) (carriers : List ℕ) : Type 0 where
-  pub below : o < 16 → carriers ≡ run o (min (16 - o) n) ++ run 48 (n - (16 - o))
-  pub behind : 16 ≤ o → carriers ≡ run (32 + o) n
+-- Request (iii) of document 02, of a structure (kinds 40 to FF): "of a structure at offset o below 16, the first 16 - o bytes (all,
+-- if fewer) lie together from image byte o and the rest from 48; from o = 16 on, all lie from 32 + o."
+pub record InRuns (before : List ℕ) (k : ℕ) (s : Placed) : Type 0 where
+  pub below : 0x40 ≤ k → (o n : ℕ) → o ≡ offset (kindOf k) (endOf 0 before) → n ≡ kindOf k .size → o < 16
+      → s .carriers ≡ run o (min (16 - o) n) ++ run 48 (n - (16 - o))
+  pub behind : 0x40 ≤ k → (o n : ℕ) → o ≡ offset (kindOf k) (endOf 0 before) → n ≡ kindOf k .size → 16 ≤ o
+      → s .carriers ≡ run (32 + o) n

@@ -2,15 +2,20 @@
 
 use std::hint::black_box;
 
-use crate::memory::Memory;
+use crate::memory;
 
 /// Enough for every image, list and code.
 const ROOM: usize = 1100;
 
 /// One call, with its inputs.
 pub enum Call {
-    Write { list: Memory },
-    Read { signature: Memory, image: Memory },
+    Write {
+        list: &'static [u8],
+    },
+    Read {
+        signature: &'static [u8],
+        image: &'static [u8],
+    },
     Prologue(o32::Request),
     Epilogue(o32::Request),
 }
@@ -19,7 +24,7 @@ pub enum Call {
 pub struct Case {
     pub name: String,
     call: Call,
-    result: Memory,
+    result: &'static [u8],
 }
 
 impl Case {
@@ -27,11 +32,11 @@ impl Case {
         let mut case = Case {
             name,
             call,
-            result: Memory::input(&[]),
+            result: &[],
         };
-        let mut buffer = case.buffer();
-        let length = case.run_model(&mut buffer);
-        case.result = Memory::input(&buffer[..length as usize]);
+        let buffer = case.buffer();
+        let length = case.run_model(buffer);
+        case.result = memory::input(&buffer[..length as usize]);
         case
     }
 
@@ -41,16 +46,16 @@ impl Case {
     }
 
     /// A buffer for the results of one of the three.
-    pub fn buffer(&self) -> Memory {
-        Memory::buffer(ROOM)
+    pub fn buffer(&self) -> &'static mut [u8] {
+        memory::buffer(ROOM)
     }
 
     /// A time says nothing unless the results agree.
     pub fn check(&self) {
         assert!(!self.result.is_empty(), "{}: refused", self.name);
-        let mut buffer = self.buffer();
-        let length = self.run_o32(&mut buffer);
-        assert_eq!(buffer[..length as usize], self.result[..], "{}", self.name);
+        let buffer = self.buffer();
+        let length = self.run_o32(buffer);
+        assert_eq!(&buffer[..length as usize], self.result, "{}", self.name);
     }
 
     #[inline]
@@ -99,7 +104,7 @@ impl Case {
     #[inline]
     pub fn run_copy(&self, buffer: &mut [u8]) -> u32 {
         let buffer = black_box(buffer);
-        let result = black_box(&self.result[..]);
+        let result = black_box(self.result);
         buffer[..result.len()].copy_from_slice(result);
         result.len() as u32
     }
@@ -176,14 +181,14 @@ pub fn all() -> Vec<Case> {
     let lists = lists();
     let writes = lists.iter().map(|(name, list, _)| {
         let call = Call::Write {
-            list: Memory::input(list),
+            list: memory::input(list),
         };
         Case::new(format!("write, {name}"), call)
     });
     let reads = lists.iter().map(|(name, list, signature)| {
         let call = Call::Read {
-            signature: Memory::input(signature),
-            image: Memory::input(&image_of(list)),
+            signature: memory::input(signature),
+            image: memory::input(&image_of(list)),
         };
         Case::new(format!("read, {name}"), call)
     });

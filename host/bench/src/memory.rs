@@ -1,58 +1,29 @@
 //! Bytes at a fixed place in a page of their own.
 //!
 //! A store across a page boundary takes several nanoseconds more, and a load
-//! may have to wait for a store at the same place in another page. In memory
-//! from the heap it is chance which of the three that are timed meets these.
-
-use std::ops::{Deref, DerefMut};
+//! may have to wait for a store at the same place in another page. Where the
+//! allocator picks the places, it is chance which of the three that are timed
+//! meets these.
 
 const PAGE: usize = 4096;
 
-/// Buffers lie in the second half of their page, inputs in the first.
-const BUFFER: usize = PAGE / 2;
+/// Inputs lie in the first half of their page, buffers in the second.
+const HALF: usize = PAGE / 2;
 
 #[repr(align(4096))]
 struct Page([u8; PAGE]);
 
-pub struct Memory {
-    page: Box<Page>,
-    start: usize,
-    length: usize,
+/// A page that is never given back: it is needed until the program ends.
+fn page() -> &'static mut [u8] {
+    &mut Box::leak(Box::new(Page([0; PAGE]))).0
 }
 
-impl Memory {
-    pub fn input(bytes: &[u8]) -> Self {
-        let mut memory = Memory::new(0, bytes.len());
-        memory.copy_from_slice(bytes);
-        memory
-    }
-
-    pub fn buffer(length: usize) -> Self {
-        Memory::new(BUFFER, length)
-    }
-
-    fn new(start: usize, length: usize) -> Self {
-        assert!(length <= PAGE - BUFFER);
-        Memory {
-            page: Box::new(Page([0; PAGE])),
-            start,
-            length,
-        }
-    }
+pub fn input(bytes: &[u8]) -> &'static [u8] {
+    let place = &mut page()[..HALF][..bytes.len()];
+    place.copy_from_slice(bytes);
+    place
 }
 
-impl Deref for Memory {
-    type Target = [u8];
-
-    #[inline]
-    fn deref(&self) -> &[u8] {
-        &self.page.0[self.start..self.start + self.length]
-    }
-}
-
-impl DerefMut for Memory {
-    #[inline]
-    fn deref_mut(&mut self) -> &mut [u8] {
-        &mut self.page.0[self.start..self.start + self.length]
-    }
+pub fn buffer(length: usize) -> &'static mut [u8] {
+    &mut page()[HALF..][..length]
 }

@@ -4,7 +4,6 @@ use std::hint::black_box;
 use std::time::{Duration, Instant};
 
 use crate::cases::Case;
-use crate::memory::Memory;
 
 /// Rounds of each case; their times make the spread.
 const ROUNDS: usize = 301;
@@ -51,7 +50,7 @@ pub fn measure(case: &Case) -> [Spread; 3] {
 
 struct Contestant {
     runner: Runner,
-    buffer: Memory,
+    buffer: &'static mut [u8],
     calls: u32,
     times: Vec<f64>,
 }
@@ -80,7 +79,7 @@ impl Contestant {
     fn time_batch(&mut self, case: &Case) -> Duration {
         let start = Instant::now();
         for _ in 0..self.calls {
-            black_box((self.runner)(case, &mut self.buffer));
+            black_box((self.runner)(case, self.buffer));
         }
         start.elapsed()
     }

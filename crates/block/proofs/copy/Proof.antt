@@ -36,20 +36,20 @@ returns c =
 loop-holds : tie.Need-loop-holds Inv-loop μ-loop
 loop-holds c = (omega arith, refl, refl)
 
-sub-part-length : tie.Need-sub-part-length Inv-loop μ-loop
-sub-part-length c = search needs
+sub-chunk-length : tie.Need-sub-chunk-length Inv-loop μ-loop
+sub-chunk-length c = search needs
 
-part-length-requires : tie.Need-part-length-requires Inv-loop μ-loop
-part-length-requires c κs = search needs
+chunk-length-requires : tie.Need-chunk-length-requires Inv-loop μ-loop
+chunk-length-requires c κs = search needs
 
-add-move-part : tie.Need-add-move-part Inv-loop μ-loop
-add-move-part c = search needs
+add-move-chunk : tie.Need-add-move-chunk Inv-loop μ-loop
+add-move-chunk c = search needs
 
-add-move-part-2 : tie.Need-add-move-part-2 Inv-loop μ-loop
-add-move-part-2 c = search needs
+add-move-chunk-2 : tie.Need-add-move-chunk-2 Inv-loop μ-loop
+add-move-chunk-2 c = search needs
 
-move-part-requires : tie.Need-move-part-requires Inv-loop μ-loop
-move-part-requires c κs = search needs
+move-chunk-requires : tie.Need-move-chunk-requires Inv-loop μ-loop
+move-chunk-requires c κs = search needs
 
 add-i : tie.Need-add-i Inv-loop μ-loop
 add-i c = search needs
@@ -61,7 +61,7 @@ loop-again : tie.Need-loop-again Inv-loop μ-loop
 loop-again c =
     let a = c .before .before .before .before .before .before .before .before .before .before .args in
     let l = c .before .before .before .before .before .before .loop in
-    (omega arith, omega arith, more-stored (now (a .out)) (now (a .src)) (a .to) (a .at) (l .i) _ (omega arith) (l .inv .2) (c .before .before .move-part .ensures))
+    (omega arith, omega arith, more-stored (now (a .out)) (now (a .src)) (a .to) (a .at) (l .i) _ (omega arith) (l .inv .2) (c .before .before .move-chunk .ensures))
 
 same-length-2 : tie.Need-same-length-2 Inv-loop μ-loop
 same-length-2 c = c .before .loop .inv .1
@@ -84,11 +84,11 @@ copy-spec =
     same-length
     returns
     loop-holds
-    sub-part-length
-    part-length-requires
-    add-move-part
-    add-move-part-2
-    move-part-requires
+    sub-chunk-length
+    chunk-length-requires
+    add-move-chunk
+    add-move-chunk-2
+    move-chunk-requires
     add-i
     loop-less
     loop-again

@@ -4,7 +4,7 @@ use mathlib.Core.Path.{refl, sym, _∙_}
 use Prim.Native.Nat.{_+_, _-_}
 use native.Mathlib.Omega.{arith}
 use denote.Ref.{now}
-use Rattle.block.proofs.Low.{none-before, none-behind, some, all, word-whole}
+use Rattle.block.proofs.Low.{none-before, none-behind, those-left, all-four, word-whole}
 use borrow.Author.Needs.{needs}
 use Rattle.block.proofs.low_word.Statement.{statement}
 use Rattle.block.proofs.low_word.Tie as tie
@@ -31,7 +31,7 @@ with-start-requires c κs = search needs
 returns-3 : tie.Need-returns-3
 returns-3 c =
     let a = c .before .before .before .before .before .args in
-    rw (some (a .o) (a .n) (a .p) (omega arith) (omega arith)) (c .with-start .ensures)
+    rw (those-left (a .o) (a .n) (a .p) (omega arith) (omega arith)) (c .with-start .ensures)
 
 add-word-at : tie.Need-add-word-at
 add-word-at c = search needs
@@ -42,7 +42,7 @@ word-at-requires c κs = search needs
 returns-4 : tie.Need-returns-4
 returns-4 c =
     let a = c .before .before .before .before .before .args in
-    rw (all (a .o) (a .n) (a .p) (omega arith) (omega arith))
+    rw (all-four (a .o) (a .n) (a .p) (omega arith) (omega arith))
     (c .word-at .ensures ∙ sym (word-whole (a .w) (now (a .src)) (a .at + (a .p - a .o)) (omega arith)))
 
 pub low-word-spec : {M : Type 1} → statement M

@@ -1,4 +1,4 @@
--- `block::put_low` meets its contract. The loop's invariant: the bytes that belong into the first k words are stored.
+-- `block::put_low` meets its contract. The loop's invariant: the bytes that belong to the first k words are stored.
 -- Assumes nothing.
 use mathlib.Core.Path.{_≡_, refl, ap, _∙_}
 use Prim.Native.Nat.{ℕ, _+_, _-_, _*_, _≤_, min}
@@ -7,7 +7,7 @@ use denote.Ref.{now}
 use lib.ListN.{length, take, drop, length-set}
 use Rattle.carried.specs.Image.{put}
 use Rattle.o32.specs.O32.{run}
-use Rattle.block.specs.Block.{blockBytes, inWord}
+use Rattle.block.specs.Block.{blockBytes, bytesInWord}
 use Rattle.block.proofs.Image.{word-start}
 use Rattle.block.proofs.Low.{at-most-four, low-next}
 use borrow.Author.Needs.{needs}
@@ -55,7 +55,7 @@ loop-again c =
     let s = c .before .before .before .before in
     let a = s .args in
     let l = c .before .before .loop in
-    let m = inWord (a .o) (a .n) (4 * l .k) in (
+    let m = bytesInWord (a .o) (a .n) (4 * l .k) in (
       omega arith,
       simp length-set (l .inv .1),
       word-start (l .next) (l .k) (c .low-word .result) m (take m (drop (a .at + (4 * l .k - a .o)) (now (a .src)))) (omega arith)

@@ -1,4 +1,4 @@
--- `block::move_part` meets its contract. The first loop's invariant: the first i bytes are in the array; the second's: the first j of
+-- `block::move_chunk` meets its contract. The first loop's invariant: the first i bytes are in the array; the second's: the first j of
 -- the array are stored.
 -- Assumes nothing.
 use native.Mathlib.Omega.{arith}
@@ -11,32 +11,32 @@ use Rattle.carried.specs.Image.{put}
 use Rattle.o32.specs.O32.{run}
 use Rattle.block.proofs.Stores.{store-next, held-next}
 use borrow.Author.Needs.{needs}
-use Rattle.block.proofs.move_part.Statement.{statement}
-use Rattle.block.proofs.move_part.Tie as tie
+use Rattle.block.proofs.move_chunk.Statement.{statement}
+use Rattle.block.proofs.move_chunk.Tie as tie
 
 abbrev Inv-loop : tie.InvT-loop
-Inv-loop out to src at n part₀ i₀ part i = (i ≤ n) × (length part ≡ 512) × (take i part ≡ take i (drop at src))
+Inv-loop out to src at n chunk₀ i₀ chunk i = (i ≤ n) × (length chunk ≡ 512) × (take i chunk ≡ take i (drop at src))
 
 abbrev μ-loop : tie.MeasureT-loop
-μ-loop out to src at n part₀ i₀ part i = n - i
+μ-loop out to src at n chunk₀ i₀ chunk i = n - i
 
 abbrev Inv-loop2 : tie.InvT-loop2
-Inv-loop2 out₀ to src at n part i j₀ out j = (j ≤ n) × (length out ≡ length out₀) × (out ≡ put out₀ (run to j) (take j part))
+Inv-loop2 out₀ to src at n chunk i j₀ out j = (j ≤ n) × (length out ≡ length out₀) × (out ≡ put out₀ (run to j) (take j chunk))
 
 abbrev μ-loop2 : tie.MeasureT-loop2
-μ-loop2 out₀ to src at n part i j₀ out j = n - j
+μ-loop2 out₀ to src at n chunk i j₀ out j = n - j
 
 loop-holds : tie.Need-loop-holds Inv-loop μ-loop Inv-loop2 μ-loop2
 loop-holds c = (omega arith, refl, refl)
 
-add-part : tie.Need-add-part Inv-loop μ-loop Inv-loop2 μ-loop2
-add-part c = search needs
+add-chunk : tie.Need-add-chunk Inv-loop μ-loop Inv-loop2 μ-loop2
+add-chunk c = search needs
 
-shared-slice-read-part : tie.Need-shared-slice-read-part Inv-loop μ-loop Inv-loop2 μ-loop2
-shared-slice-read-part c = search needs
+shared-slice-read-chunk : tie.Need-shared-slice-read-chunk Inv-loop μ-loop Inv-loop2 μ-loop2
+shared-slice-read-chunk c = search needs
 
-array-write-part : tie.Need-array-write-part Inv-loop μ-loop Inv-loop2 μ-loop2
-array-write-part c = omega arith
+array-write-chunk : tie.Need-array-write-chunk Inv-loop μ-loop Inv-loop2 μ-loop2
+array-write-chunk c = omega arith
 
 add-i : tie.Need-add-i Inv-loop μ-loop Inv-loop2 μ-loop2
 add-i c = search needs
@@ -48,7 +48,7 @@ loop-again : tie.Need-loop-again Inv-loop μ-loop Inv-loop2 μ-loop2
 loop-again c =
     let a = c .before .before .before .args in
     let l = c .before .before .loop in
-    (omega arith, simp length-set (l .inv .1), held-next (l .part) (now (a .src)) (a .at) (l .i) (omega arith) (omega arith) (l .inv .2))
+    (omega arith, simp length-set (l .inv .1), held-next (l .chunk) (now (a .src)) (a .at) (l .i) (omega arith) (omega arith) (l .inv .2))
 
 loop2-holds : tie.Need-loop2-holds Inv-loop μ-loop Inv-loop2 μ-loop2
 loop2-holds c = (omega arith, refl, refl)
@@ -72,8 +72,8 @@ loop2-again : tie.Need-loop2-again Inv-loop μ-loop Inv-loop2 μ-loop2
 loop2-again c =
     let a = c .before .before .before .before .args in
     let l = c .before .loop2 in
-    let part = c .before .before .before .loop .part in
-    (omega arith, simp length-set (l .inv .1), rw (l .inv .2) (rw zero-add at (store-next (now (a .out)) part (a .to) 0 (l .j) (omega arith))))
+    let chunk = c .before .before .before .loop .chunk in
+    (omega arith, simp length-set (l .inv .1), rw (l .inv .2) (rw zero-add at (store-next (now (a .out)) chunk (a .to) 0 (l .j) (omega arith))))
 
 same-length : tie.Need-same-length Inv-loop μ-loop Inv-loop2 μ-loop2
 same-length c = c .before .loop2 .inv .1
@@ -85,11 +85,11 @@ returns c =
     let m = c .before .loop2 in
     let e : l .i ≡ a .n = omega arith in
     let f : m .j ≡ a .n = omega arith in
-    m .inv .2 ∙ ap (λ (k : ℕ). put (now (a .out)) (run (a .to) k) (take k (l .part))) f
+    m .inv .2 ∙ ap (λ (k : ℕ). put (now (a .out)) (run (a .to) k) (take k (l .chunk))) f
     ∙ ap (put (now (a .out)) (run (a .to) (a .n))) (rw e at (l .inv .2))
 
-pub move-part-spec : {M : Type 1} → statement M
-move-part-spec =
+pub move-chunk-spec : {M : Type 1} → statement M
+move-chunk-spec =
     tie.close
     (tie.spec
     Inv-loop
@@ -97,9 +97,9 @@ move-part-spec =
     Inv-loop2
     μ-loop2
     loop-holds
-    add-part
-    shared-slice-read-part
-    array-write-part
+    add-chunk
+    shared-slice-read-chunk
+    array-write-chunk
     add-i
     loop-less
     loop-again
