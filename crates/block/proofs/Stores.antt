@@ -1,5 +1,5 @@
 -- Laws of stores at bytes that lie together: some bytes more, one run behind another, a word, and stores into either of two
--- parts of a list.
+-- parts of a list; and of bytes of a source that are taken into a list.
 -- Assumes nothing.
 use mathlib.Core.Path.{_≡_, refl, sym, ap, ap₂, _∙_}
 use mathlib.Core.List.{List, [], _∷_, _++_, append-nil}
