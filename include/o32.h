@@ -22,7 +22,9 @@
  *
  * ANSWERS. `refusal` is 0 on success, otherwise the number of the refusal (see
  * the tables below). `place` says where, for refusals that have a place, and is
- * 0 otherwise. `length` is the number of bytes written, and 0 on a refusal.
+ * 0 otherwise. `argument` says which argument that is, counted from 1, and is 0
+ * where there is none. `length` is the number of bytes written, and 0 on a
+ * refusal.
  *
  * All numbers in lists, images and code are big-endian. Kinds are written in
  * hexadecimal here.
@@ -111,21 +113,24 @@
  *
  * Records are checked from left to right, each by 1 to 5 in this order; 6 to 8
  * follow when all records have passed. The place of 1 to 5 is the offset of the
- * record's kind byte in what was given, the list or the signature.
+ * record's kind byte in what was given, the list or the signature; that of 8 is
+ * the offset of the first such kind byte in the signature. Arguments are counted
+ * from 1, a return pointer too and the marker not; the argument is the number
+ * that the refused one has or would have.
  *
- *   no.  meaning                                                    place
- *    1   unknown kind                                               kind byte
- *    2   marker or return pointer in the wrong place, or repeated   kind byte
- *    3   a 33rd argument                                            kind byte
- *    4   the body is cut off (o32_write only)                       kind byte
- *    5   the argument ends beyond 1,024                             kind byte
- *    6   the image's length isn't the one that the signature asks
- *        for, 32 + A (o32_read only)                                0
- *    7   the output buffer is shorter than the result               0
- *    8   the word of a byte or halfword (01 to 04) is none that
- *        promotion gives, as 00000080 for 01 (o32_read only)        the first
- *                                                       such kind byte's offset
- *                                                       in the signature
+ *   no.  meaning                                          place      argument
+ *    1   unknown kind                                     kind byte  0
+ *    2   marker in the wrong place, or repeated           kind byte  0
+ *        return pointer in the wrong place, or repeated   kind byte  its number
+ *    3   a 33rd argument                                  kind byte  33
+ *    4   the body is cut off (o32_write only)             kind byte  its number
+ *    5   the argument ends beyond 1,024                   kind byte  its number
+ *    6   the image's length isn't the one that the
+ *        signature asks for, 32 + A (o32_read only)       0          0
+ *    7   the output buffer is shorter than the result     0          0
+ *    8   the word of a byte or halfword (01 to 04) is
+ *        none that promotion gives, as 00000080 for 01
+ *        (o32_read only)                                  kind byte  its number
  *
  *
  * FRAMES
@@ -157,7 +162,7 @@
  * then jr $31, and in its delay slot addiu $sp,$sp,F, or a no-operation if F is
  * 0. The longest prologue has 92 bytes, the longest epilogue 96.
  *
- * Checks in this order; place is 0 for all of them:
+ * Checks in this order; place and argument are 0 for all of them:
  *
  *   no.  meaning
  *    9   the general mask names another register, or the pair mask is above 63
@@ -209,9 +214,10 @@ enum o32_refusal {
 
 /* What o32_write, o32_read, o32_prologue and o32_epilogue answer. */
 typedef struct {
-    uint32_t refusal; /* 0 on success */
-    uint32_t place;   /* offset of the refused kind byte, or 0 */
-    uint32_t length;  /* bytes written, 0 on a refusal */
+    uint32_t refusal;  /* 0 on success */
+    uint32_t place;    /* offset of the refused kind byte, or 0 */
+    uint32_t argument; /* number of the refused argument, from 1, or 0 */
+    uint32_t length;   /* bytes written, 0 on a refusal */
 } o32_answer;
 
 /*

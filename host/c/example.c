@@ -56,10 +56,10 @@ static int all_are(const uint8_t *bytes, size_t length, uint8_t value)
 }
 
 static int is_answer(o32_answer answer, uint32_t refusal, uint32_t place,
-                     uint32_t length)
+                     uint32_t argument, uint32_t length)
 {
     return answer.refusal == refusal && answer.place == place &&
-           answer.length == length;
+           answer.argument == argument && answer.length == length;
 }
 
 static int is_refused(o32_layout layout, uint32_t refusal)
@@ -105,7 +105,7 @@ static void call_image(void)
     uint8_t *given = copy_of(list, sizeof list);
     uint8_t *image = buffer(48);
     check(is_answer(o32_write(O32_FPU, given, sizeof list, image, 48), 0, 0,
-                    48),
+                    0, 48),
           "the list is written to an image of 48 bytes");
     print_words("$4 to $7", image, 4);
     print_words("$f12 to $f15", image + 16, 4);
@@ -116,7 +116,7 @@ static void call_image(void)
     uint8_t *reading = buffer(sizeof list);
     check(is_answer(o32_read(O32_FPU, signature, sizeof kinds, image, 48,
                              reading, sizeof list),
-                    0, 0, sizeof list),
+                    0, 0, 0, sizeof list),
           "the image is read back");
     check(memcmp(reading, list, sizeof list) == 0,
           "the reading is the list that was written");
@@ -134,26 +134,28 @@ static void call_image(void)
 static void empty_buffers(void)
 {
     uint8_t *image = buffer(48);
-    check(is_answer(o32_write(O32_FPU, NULL, 0, image, 48), 0, 0, 48) &&
+    check(is_answer(o32_write(O32_FPU, NULL, 0, image, 48), 0, 0, 0, 48) &&
               all_are(image, 48, 0),
           "the empty list gives 48 zero bytes");
-    check(is_answer(o32_read(O32_FPU, NULL, 0, image, 48, NULL, 0), 0, 0, 0),
+    check(is_answer(o32_read(O32_FPU, NULL, 0, image, 48, NULL, 0), 0, 0, 0,
+                    0),
           "which read as the empty list");
     check(is_answer(o32_write(O32_FPU, NULL, 0, NULL, 0), O32_SHORT_OUTPUT, 0,
-                    0),
+                    0, 0),
           "and don't go into an empty buffer");
     check(is_answer(o32_read(O32_FPU, NULL, 0, NULL, 0, NULL, 0),
-                    O32_IMAGE_LENGTH, 0, 0),
+                    O32_IMAGE_LENGTH, 0, 0, 0),
           "no image has length 0");
-    check(is_answer(o32_prologue(O32_FPU, 1, 0, 0, 0, 0, NULL, 0), 0, 0, 0),
+    check(is_answer(o32_prologue(O32_FPU, 1, 0, 0, 0, 0, NULL, 0), 0, 0, 0,
+                    0),
           "a leaf without a frame has an empty prologue");
     check(is_answer(o32_epilogue(O32_FPU, 1, 0, 0, 0, 0, NULL, 0),
-                    O32_SHORT_CODE, 0, 0),
+                    O32_SHORT_CODE, 0, 0, 0),
           "but no empty epilogue");
     free(image);
 }
 
-/* A refusal says where, and leaves the output alone. */
+/* A refusal says where and which argument, and leaves the output alone. */
 static void refusals(void)
 {
     static const uint8_t list[] = {0x01, 0x80, 0x05, 0x00};
@@ -162,7 +164,7 @@ static void refusals(void)
     uint8_t *given = copy_of(list, sizeof list);
     uint8_t *image = buffer(48);
     check(is_answer(o32_write(O32_FPU, given, sizeof list, image, 48),
-                    O32_BODY_CUT_OFF, 2, 0) &&
+                    O32_BODY_CUT_OFF, 2, 2, 0) &&
               all_are(image, 48, 0xA5),
           "a list that is cut off is refused, the image buffer stays");
 
@@ -171,7 +173,7 @@ static void refusals(void)
     uint8_t *signature = copy_of(kinds, sizeof kinds);
     uint8_t *reading = buffer(2);
     check(is_answer(o32_read(O32_FPU, signature, 1, image, 48, reading, 2),
-                    O32_NO_PROMOTION, 0, 0) &&
+                    O32_NO_PROMOTION, 0, 1, 0) &&
               all_are(reading, 2, 0xA5),
           "00000080 is no signed byte, the list buffer stays");
 
@@ -179,6 +181,40 @@ static void refusals(void)
     free(signature);
     free(image);
     free(given);
+}
+
+/* Arguments are counted from 1; the marker's byte counts only for the place. */
+static void argument_numbers(void)
+{
+    static const uint8_t pointer[] = {0x05, 0, 0, 0, 9, 0x0A, 0x0B, 0, 0, 0, 0};
+    static const uint8_t markers[] = {0x05, 0, 0, 0, 9, 0x0A, 0x0A};
+    static const uint8_t kinds[] = {0x05, 0x0A, 0x01};
+
+    uint8_t *given = copy_of(pointer, sizeof pointer);
+    uint8_t *image = buffer(48);
+    check(is_answer(o32_write(O32_FPU, given, sizeof pointer, image, 48),
+                    O32_MISPLACED, 6, 2, 0),
+          "a return pointer behind a word and a marker would be argument 2");
+    free(given);
+
+    given = copy_of(markers, sizeof markers);
+    check(is_answer(o32_write(O32_FPU, given, sizeof markers, image, 48),
+                    O32_MISPLACED, 6, 0, 0),
+          "a second marker is no argument");
+    free(given);
+
+    memset(image, 0, 48);
+    image[7] = 0x80;
+    uint8_t *signature = copy_of(kinds, sizeof kinds);
+    uint8_t *reading = buffer(8);
+    check(is_answer(o32_read(O32_FPU, signature, sizeof kinds, image, 48,
+                             reading, 8),
+                    O32_NO_PROMOTION, 2, 2, 0),
+          "the byte behind a word and a marker is argument 2");
+
+    free(reading);
+    free(signature);
+    free(image);
 }
 
 /* A function that calls others, saves $16 and has one word of locals. */
@@ -201,7 +237,7 @@ static void example_frame(void)
 
     uint8_t *code = buffer(12);
     check(is_answer(o32_prologue(O32_FPU, 0, 4, 0, general, 0, code, 12), 0, 0,
-                    12) &&
+                    0, 12) &&
               are_words(code, prologue, 3),
           "the prologue is as expected");
     print_words("prologue", code, 3);
@@ -209,7 +245,7 @@ static void example_frame(void)
 
     code = buffer(16);
     check(is_answer(o32_epilogue(O32_FPU, 0, 4, 0, general, 0, code, 16), 0, 0,
-                    16) &&
+                    0, 16) &&
               are_words(code, epilogue, 4),
           "the epilogue is as expected");
     print_words("epilogue", code, 4);
@@ -235,7 +271,7 @@ static void check_floats(uint32_t device, const uint32_t *words,
     uint8_t *given = copy_of(floats, sizeof floats);
     uint8_t *image = buffer(56);
     check(is_answer(o32_write(device, given, sizeof floats, image, 56), 0, 0,
-                    56) &&
+                    0, 56) &&
               are_words(image, words, 14),
           what);
     free(image);
@@ -255,7 +291,7 @@ static void check_reading(uint32_t device, const uint32_t *words,
     uint8_t *reading = buffer(sizeof floats);
     check(is_answer(o32_read(device, signature, sizeof float_kinds, image, 56,
                              reading, sizeof floats),
-                    0, 0, sizeof floats) &&
+                    0, 0, 0, sizeof floats) &&
               memcmp(reading, floats, sizeof floats) == 0,
           what);
     free(reading);
@@ -286,10 +322,10 @@ static void no_unit(uint32_t device)
     uint8_t *code = buffer(O32_EPILOGUE_MAX);
     check(is_answer(o32_prologue(device, 0, 0, 0, general, 1, code,
                                  O32_EPILOGUE_MAX),
-                    O32_PAIRS_WITHOUT_UNIT, 0, 0) &&
+                    O32_PAIRS_WITHOUT_UNIT, 0, 0, 0) &&
               is_answer(o32_epilogue(device, 0, 0, 0, general, 1, code,
                                      O32_EPILOGUE_MAX),
-                        O32_PAIRS_WITHOUT_UNIT, 0, 0) &&
+                        O32_PAIRS_WITHOUT_UNIT, 0, 0, 0) &&
               all_are(code, O32_EPILOGUE_MAX, 0xA5),
           "nor is there a prologue or an epilogue, the code buffer stays");
     free(code);
@@ -318,6 +354,7 @@ int main(void)
     call_image();
     empty_buffers();
     refusals();
+    argument_numbers();
     example_frame();
     devices();
     printf("%d passed, %d failed\n", passed, failed);

@@ -7,17 +7,18 @@ use lib.Dec.{ltb}
 use Rattle.carried.specs.Image as C
 use Rattle.answers.specs.declared.Answer.{Answer}
 
--- Refusal 7, "output buffer shorter than the result", or 13, "code buffer too short": this number, at place 0.
+-- Refusal 7, "output buffer shorter than the result", or 13, "code buffer too short": this number, at place 0, of no argument.
 abbrev pub within : ℕ → ℕ → C.Answer → C.Answer
-within number room (C.refused r at) = C.refused r at
-within number room (C.done x) = cond (ltb room (length x)) (C.refused number 0) (C.done x)
+within number room (C.refused r at n) = C.refused r at n
+within number room (C.done x) = cond (ltb room (length x)) (C.refused number 0 0) (C.done x)
 
--- "A refusal returns its number, its place .., length 0"; "Success returns 0, place 0 and the exact length."
+-- "A refusal returns its number, its place .., length 0"; "Success returns 0, place 0 and the exact length." A refusal "passes [the
+-- argument's number] up beside the place"; success reports 0 (request (iv) of document 02).
 abbrev pub answerOf : C.Answer → Answer
-answerOf (C.refused r at) = record { refusal = r; place = at; length = 0 }
-answerOf (C.done x) = record { refusal = 0; place = 0; length = length x }
+answerOf (C.refused r at n) = record { refusal = r; place = at; argument = n; length = 0 }
+answerOf (C.done x) = record { refusal = 0; place = 0; argument = 0; length = length x }
 
 -- On a refusal "the output buffer keeps its bytes"; on success "output bytes beyond it keep their content".
 abbrev pub bufferOf : C.Answer → List ℕ → List ℕ
-bufferOf (C.refused r at) out = out
+bufferOf (C.refused r at n) out = out
 bufferOf (C.done x) out = x ++ drop (length x) out

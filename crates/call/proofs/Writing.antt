@@ -31,7 +31,7 @@ pub fillable : (d : Device) (list : List ℕ) (long end n : ℕ) → M.Accepted 
 fillable d list long end n e g = go (plan (O32 d) true list) refl e
   where
     go : (q : Plan State) → plan (O32 d) true list ≡ q → M.Accepted long end ≡ measured q → Fillable d list n
-    go (bad r at) f h = let z : _≡_ {A = ℕ} 0 1 = cc in absurd (omega arith)
+    go (bad r at j) f h = let z : _≡_ {A = ℕ} 0 1 = cc in absurd (omega arith)
     go (good L st) f h =
         let i : end ≡ st .end = cc in
         record { placed = L; last = st; planned = f; whole = g ∙ ap (λ (x : ℕ). 32 + area x) i }
@@ -40,7 +40,7 @@ pub end-in-bounds : (d : Device) (bodies : Bool) (list : List ℕ) (long end : �
 end-in-bounds d bodies list long end e = go (plan (O32 d) bodies list) refl e
   where
     go : (q : Plan State) → plan (O32 d) bodies list ≡ q → M.Accepted long end ≡ measured q → end ≤ 1024
-    go (bad r at) f h = let z : _≡_ {A = ℕ} 0 1 = cc in absurd (omega arith)
+    go (bad r at j) f h = let z : _≡_ {A = ℕ} 0 1 = cc in absurd (omega arith)
     go (good L st) f h =
         let i : end ≡ st .end = cc in
         let w : leb (st .end) 1024 ≡ true = walk-fits (O32 d) (O32-laws d) (walked (O32 d) (O32-laws d) bodies list 0 0 (O32 d .start) L st f .walk) refl in
@@ -51,24 +51,25 @@ pub record Right (d : Device) (list out : List ℕ) (r : Answer) (o : List ℕ) 
   pub buffer : o ≡ bufferOf (writeInto d list (length out)) out
 
 module _ (d : Device) (list out : List ℕ) where
-  pub write-refused : (m : Measured) (r p : ℕ) (a : Answer) → m ≡ measured (plan (O32 d) true list) → m ≡ M.Refused r p → a ≡ record { refusal = r; place = p; length = 0 } → Right d list out a out
-  write-refused m r p a e g i = go (plan (O32 d) true list) refl (sym g ∙ e)
+  pub write-refused : (m : Measured) (r p j : ℕ) (a : Answer) → m ≡ measured (plan (O32 d) true list) → m ≡ M.Refused r p j → a ≡ record { refusal = r; place = p; argument = j; length = 0 } → Right d list out a out
+  write-refused m r p j a e g i = go (plan (O32 d) true list) refl (sym g ∙ e)
     where
-      go : (q : Plan State) → plan (O32 d) true list ≡ q → M.Refused r p ≡ measured q → Right d list out a out
-      go (bad r′ p′) f h =
+      go : (q : Plan State) → plan (O32 d) true list ≡ q → M.Refused r p j ≡ measured q → Right d list out a out
+      go (bad r′ p′ j′) f h =
           let x : r ≡ r′ = cc in
           let y : p ≡ p′ = cc in
-          record { answer = i ∙ rw (f, x, y); buffer = rw f }
+          let z : j ≡ j′ = cc in
+          record { answer = i ∙ rw (f, x, y, z); buffer = rw f }
       go (good L st) f h = let z : _≡_ {A = ℕ} 0 1 = cc in absurd (omega arith)
 
   module _ (n : ℕ) (f : Fillable d list n) where
     long : length (image n (f .placed) list) ≡ n
     long = length-put (replicate n 0) (carried (f .placed)) (promotedBytes (f .placed) list) ∙ length-replicate n 0
 
-    pub write-short : length out < n → Right d list out (record { refusal = 7; place = 0; length = 0 }) out
+    pub write-short : length out < n → Right d list out (record { refusal = 7; place = 0; argument = 0; length = 0 }) out
     write-short h = record { answer = rw (f .planned, ← (f .whole), long, lt-ltb (length out) n h); buffer = rw (f .planned, ← (f .whole), long, lt-ltb (length out) n h) }
 
-    pub write-done : (o : List ℕ) → n ≤ length out → o ≡ imageIn (plan (O32 d) true list) list n ++ drop n out → Right d list out (record { refusal = 0; place = 0; length = n }) o
+    pub write-done : (o : List ℕ) → n ≤ length out → o ≡ imageIn (plan (O32 d) true list) list n ++ drop n out → Right d list out (record { refusal = 0; place = 0; argument = 0; length = n }) o
     write-done o h e = record {
       answer = rw (f .planned, ← (f .whole), long, le-ltb (length out) n h, long);
       buffer = e ∙ rw (f .planned, ← (f .whole), long, le-ltb (length out) n h, long);
@@ -80,9 +81,9 @@ pub written-is : (d : Device) (list x : List ℕ) (room : ℕ) → (writeInto d 
 written-is d list x room = (there (write (O32 d) list), λ h. rw (h .0, le-ltb room (length x) (h .1)))
   where
     there : (a : C.Answer) → within 7 room a ≡ C.done x → (a ≡ C.done x) × (length x ≤ room)
-    there (C.refused r at) e = let z : _≡_ {A = ℕ} 0 1 = cc in absurd (omega arith)
+    there (C.refused r at j) e = let z : _≡_ {A = ℕ} 0 1 = cc in absurd (omega arith)
     there (C.done y) e = go (ltb room (length y)) refl e
       where
-        go : (t : Bool) → ltb room (length y) ≡ t → cond t (C.refused 7 0) (C.done y) ≡ C.done x → (C.done y ≡ C.done x) × (length x ≤ room)
+        go : (t : Bool) → ltb room (length y) ≡ t → cond t (C.refused 7 0 0) (C.done y) ≡ C.done x → (C.done y ≡ C.done x) × (length x ≤ room)
         go true f e = let z : _≡_ {A = ℕ} 0 1 = cc in absurd (omega arith)
         go false f e = let g : y ≡ x = cc in (e, rw (← g) (ltb-false room (length y) f))

@@ -13,11 +13,11 @@ use Rattle.answers.specs.Answers.{within}
 
 -- The reader's refusals behind those of the signature, "6, 7, 8", in an image and with so many bytes for the list.
 abbrev pub readWith : List ℕ → ℕ → Plan State → C.Answer
-readWith img room (bad r at) = C.refused r at
+readWith img room (bad r at n) = C.refused r at n
 readWith img room (good L st) =
     cond (eqb (length img) (32 + area (st .end)))
-    (cond (ltb room (length (C.reading L img))) (C.refused 7 0) (C.checked 0 L img (C.done (C.reading L img))))
-    (C.refused 6 0)
+    (cond (ltb room (length (C.reading L img))) (C.refused 7 0 0) (C.checked 0 L img (C.done (C.reading L img))))
+    (C.refused 6 0 0)
 
 -- The writer of a list for a device, into a buffer with so many bytes.
 abbrev pub writeInto : Device → List ℕ → ℕ → C.Answer

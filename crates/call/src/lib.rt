@@ -12,11 +12,15 @@ use reader::Checked;
 
 // The answer of a list or signature that is refused.
 fn refused(found: Measured) -> Answer
-    ensures { λ r. ⌜ ((n p : ℕ) → found ≡ Measured.Refused n p → r ≡ record { refusal = n; place = p; length = 0 }) ⌝ }
+    ensures { λ r. ⌜ ((n p k : ℕ) → found ≡ Measured.Refused n p k → r ≡ record { refusal = n; place = p; argument = k; length = 0 }) ⌝ }
 {
     match found {
-        Measured::Refused { number, place } => answers::reply(number, place, 0),
-        _ => answers::reply(0, 0, 0),
+        Measured::Refused {
+            number,
+            place,
+            argument,
+        } => answers::reply(number, place, argument, 0),
+        _ => answers::reply(0, 0, 0, 0),
     }
 }
 
@@ -42,19 +46,19 @@ pub fn write(device: Device, list: &[u8], out: &mut [u8]) -> Answer
     };
     let length = image_length(end);
     if out.len() < length {
-        return answers::reply(7, 0, 0); // the image does not fit
+        return answers::reply(7, 0, 0, 0); // the image does not fit
     }
     writer::lay(device, list, out, length);
-    answers::reply(0, 0, length)
+    answers::reply(0, 0, 0, length)
 }
 
 // The answer where a word is no proper promotion.
 fn improper(found: Checked) -> Answer
-    ensures { λ r. ⌜ ((p : ℕ) → found ≡ Checked.Improper p → r ≡ record { refusal = 8; place = p; length = 0 }) ⌝ }
+    ensures { λ r. ⌜ ((p k : ℕ) → found ≡ Checked.Improper p k → r ≡ record { refusal = 8; place = p; argument = k; length = 0 }) ⌝ }
 {
     match found {
-        Checked::Improper(place) => answers::reply(8, place, 0),
-        _ => answers::reply(0, 0, 0),
+        Checked::Improper { place, argument } => answers::reply(8, place, argument, 0),
+        _ => answers::reply(0, 0, 0, 0),
     }
 }
 
@@ -69,14 +73,14 @@ pub fn read(device: Device, signature: &[u8], image: &[u8], out: &mut [u8]) -> A
         return refused(found);
     };
     if image.len() != image_length(end) {
-        return answers::reply(6, 0, 0);
+        return answers::reply(6, 0, 0, 0);
     }
     if out.len() < n {
-        return answers::reply(7, 0, 0); // the list does not fit
+        return answers::reply(7, 0, 0, 0); // the list does not fit
     }
     let checked = reader::deliver(device, signature, image, out);
     let Checked::Proper = checked else {
         return improper(checked);
     };
-    answers::reply(0, 0, n)
+    answers::reply(0, 0, 0, n)
 }

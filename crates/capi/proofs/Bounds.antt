@@ -1,4 +1,5 @@
--- The place and the length of every answer are at most 1,057, so they are 32-bit numbers; and so C gets the answer itself.
+-- The place and the length of every answer are at most 1,057, and its argument's number is at most 33, so they are 32-bit numbers;
+-- and so C gets the answer itself.
 -- Assumes nothing.
 use mathlib.Core.Path.{_≡_, refl, ap, _∙_}
 use mathlib.Core.List.{List, [], _∷_}
@@ -19,7 +20,7 @@ use Rattle.carried.proofs.Walks.{walk-of, plan-reading}
 use Rattle.o32.specs.declared.State.{State}
 use Rattle.o32.specs.O32.{O32, area}
 use Rattle.placement.proofs.Laws.{O32-laws}
-use Rattle.placement.proofs.Bounds.{place-bound, plan-bound}
+use Rattle.placement.proofs.Bounds.{Numbers, refusal-bound, plan-bound}
 use Rattle.answers.specs.declared.Answer.{Answer}
 use Rattle.answers.specs.Answers.{answerOf, bufferOf, within}
 use Rattle.call.specs.Answers.{readWith, writeInto, readInto}
@@ -33,22 +34,26 @@ use Rattle.frame.proofs.Bytes.{length-saves, small, prologue-none, prologue-len
 
 -- of an answer as the code hands it on, and as the definitions give it
 abbrev Fits : Answer → Type 0
-Fits a = (a .place ≤ 1057) × (a .length ≤ 1057)
+Fits a = (a .place ≤ 1057) × (a .argument ≤ 33) × (a .length ≤ 1057)
 
 abbrev Bounded : C.Answer → Type 0
-Bounded (C.refused r at) = at ≤ 1057
+Bounded (C.refused r at j) = (at ≤ 1057) × (j ≤ 33)
 Bounded (C.done x) = length x ≤ 1057
 
 fits : {a : Answer} (x : C.Answer) → Bounded x → a ≡ answerOf x → Fits a
-fits (C.refused r at) h e = rw e (h, omega arith)
-fits (C.done x) h e = rw e (omega arith, h)
+fits (C.refused r at j) h e = rw e (h .0, h .1, omega arith)
+fits (C.done x) h e = rw e (omega arith, omega arith, h)
+
+-- a refusal at place 0, of no argument
+nowhere : (0 ≤ 1057) × (0 ≤ 33)
+nowhere = (omega arith, omega arith)
 
 within-bounded : (number room : ℕ) (x : C.Answer) → Bounded x → Bounded (within number room x)
-within-bounded number room (C.refused r at) h = h
+within-bounded number room (C.refused r at j) h = h
 within-bounded number room (C.done x) h = go (ltb room (length x))
   where
-    go : (t : Bool) → Bounded (cond t (C.refused number 0) (C.done x))
-    go true = omega arith
+    go : (t : Bool) → Bounded (cond t (C.refused number 0 0) (C.done x))
+    go true = nowhere
     go false = h
 
 -- ---- the writer
@@ -61,7 +66,7 @@ image-length end L l h =
     omega arith
 
 write-bounded : (d : Device) (list : List ℕ) (q : Plan State) → plan (O32 d) true list ≡ q → Bounded (written (O32 d) list q)
-write-bounded d list (bad r at) e = place-bound d true list r at e
+write-bounded d list (bad r at j) e = refusal-bound d true list r at j e
 write-bounded d list (good L last) e = image-length (last .end) L list (plan-bound d true list L last e .fits)
 
 pub write-fits : {a : Answer} (d : Device) (list : List ℕ) (room : ℕ) → a ≡ answerOf (writeInto d list room) → Fits a
@@ -70,15 +75,15 @@ write-fits d list room e = fits (writeInto d list room) (within-bounded 7 room (
 -- ---- the reader
 
 -- refusal 8 counts kinds, and a reading has a byte for each
-checked-bounded : (L : List Placed) (img : List ℕ) (at : ℕ) (x : C.Answer) → at + length (reading L img) ≤ 1057 → Bounded x → Bounded (C.checked at L img x)
-checked-bounded [] img at x h b = b
-checked-bounded (s ∷ L) img at x h b =
+checked-bounded : (L : List Placed) (img : List ℕ) (at : ℕ) (x : C.Answer) → at + length (reading L img) ≤ 1057 → Numbers L → Bounded x → Bounded (C.checked at L img x)
+checked-bounded [] img at x h n b = b
+checked-bounded (s ∷ L) img at x h n b =
     go (proper (s .extension) (s .size) (gather img (s .carriers)))
-    (checked-bounded L img (suc at) x (omega (arith, length-append (body (s .size) (gather img (s .carriers))) (reading L img))) b)
+    (checked-bounded L img (suc at) x (omega (arith, length-append (body (s .size) (gather img (s .carriers))) (reading L img))) (n .1) b)
   where
-    go : (t : Bool) → Bounded (C.checked (suc at) L img x) → Bounded (cond t (C.checked (suc at) L img x) (C.refused 8 at))
+    go : (t : Bool) → Bounded (C.checked (suc at) L img x) → Bounded (cond t (C.checked (suc at) L img x) (C.refused 8 at (s .argument)))
     go true w = w
-    go false w = omega arith
+    go false w = (omega arith, n .0)
 
 -- a reading is a list that the writer accepts
 reading-length : (d : Device) (sig img : List ℕ) (L : List Placed) (last : State) → plan (O32 d) false sig ≡ good L last → length (reading L img) ≤ 1057
@@ -86,15 +91,15 @@ reading-length d sig img L last e =
     plan-bound d true (reading L img) L last (plan-reading (O32 d) (O32-laws d) (walk-of (O32 d) (O32-laws d) sig (O32 d .start) L last 0 e) img 0) .long
 
 read-bounded : (d : Device) (sig img : List ℕ) (room : ℕ) (q : Plan State) → plan (O32 d) false sig ≡ q → Bounded (readWith img room q)
-read-bounded d sig img room (bad r at) e = place-bound d false sig r at e
+read-bounded d sig img room (bad r at j) e = refusal-bound d false sig r at j e
 read-bounded d sig img room (good L last) e = go (eqb (length img) (32 + area (last .end))) (ltb room (length (reading L img)))
   where
-    go : (t u : Bool) → Bounded (cond t (cond u (C.refused 7 0) (C.checked 0 L img (C.done (reading L img)))) (C.refused 6 0))
-    go true true = omega arith
+    go : (t u : Bool) → Bounded (cond t (cond u (C.refused 7 0 0) (C.checked 0 L img (C.done (reading L img)))) (C.refused 6 0 0))
+    go true true = nowhere
     go true false =
         let l : length (reading L img) ≤ 1057 = reading-length d sig img L last e in
-        checked-bounded L img 0 (C.done (reading L img)) (omega arith) l
-    go false u = omega arith
+        checked-bounded L img 0 (C.done (reading L img)) (omega arith) (plan-bound d false sig L last e .numbers) l
+    go false u = nowhere
 
 pub read-fits : {a : Answer} (d : Device) (sig img : List ℕ) (room : ℕ) → a ≡ answerOf (readInto d sig img room) → Fits a
 read-fits d sig img room e = fits (readInto d sig img room) (read-bounded d sig img room (plan (O32 d) false sig) refl) e
@@ -105,9 +110,9 @@ code-bounded : (d : Device) (r : Request) (ws : List ℕ) (room : ℕ) → (refu
 unfolding codeInto
 code-bounded d r ws room h = go (eqb (refusalOf d r) 0) refl
   where
-    go : (t : Bool) → eqb (refusalOf d r) 0 ≡ t → Bounded (cond t (within 13 room (C.done (bytesOfWords ws))) (C.refused (refusalOf d r) 0))
+    go : (t : Bool) → eqb (refusalOf d r) 0 ≡ t → Bounded (cond t (within 13 room (C.done (bytesOfWords ws))) (C.refused (refusalOf d r) 0 0))
     go true e = within-bounded 13 room (C.done (bytesOfWords ws)) (h (eqb-true (refusalOf d r) 0 e))
-    go false e = omega arith
+    go false e = nowhere
 
 prologue-bound : (d : Device) (r : Request) → refusalOf d r ≡ 0 → length (bytesOfWords (prologueWords r)) ≤ 1057
 prologue-bound d r e = go (ℕ-discrete (frameOf r) 0)

@@ -12,7 +12,7 @@ use Rattle.capi.specs.declared.O32Layout.{O32Layout}
 
 -- An answer, number by number.
 abbrev pub narrow : Answer → O32Answer
-narrow a = record { refusal = a .refusal; place = a .place; length = a .length }
+narrow a = record { refusal = a .refusal; place = a .place; argument = a .argument; length = a .length }
 
 -- A layout, number by number.
 abbrev pub layoutNumbers : Layout → O32Layout

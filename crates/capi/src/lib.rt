@@ -11,11 +11,12 @@ use answers::Answer;
 use device::Device;
 use saves::Request;
 
-// A refusal and its place, or 0, 0 and the length of what was written.
+// A refusal, its place and its argument's number, or 0, 0, 0 and the length of what was written.
 #[repr(C)]
 pub struct O32Answer {
     pub refusal: u32,
     pub place: u32,
+    pub argument: u32,
     pub length: u32,
 }
 
@@ -31,16 +32,18 @@ pub struct O32Layout {
     pub locals: u32,
 }
 
-// An answer in 32-bit numbers. No answer has a larger place or length than 1,057.
+// An answer in 32-bit numbers. No answer has a larger place or length than 1,057, or a larger argument than 33.
 fn narrowed(answer: Answer) -> O32Answer
-    requires { ⌜ (answer .place ≤ 1057) × (answer .length ≤ 1057) ⌝ }
+    requires { ⌜ (answer .place ≤ 1057) × (answer .argument ≤ 33) × (answer .length ≤ 1057) ⌝ }
     ensures { λ r. ⌜ r ≡ narrow answer ⌝ }
 {
     let place = answer.place as u32;
+    let argument = answer.argument as u32;
     let length = answer.length as u32;
     O32Answer {
         refusal: answer.refusal,
         place,
+        argument,
         length,
     }
 }

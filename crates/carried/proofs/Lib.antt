@@ -4,3 +4,4 @@ pub mod Walks
 pub mod Theorem
 pub mod Records
 pub mod RoundTrip
+pub mod Refusals

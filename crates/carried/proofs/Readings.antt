@@ -110,7 +110,7 @@ module _ (n : ℕ) (L : List Placed) (w : OneEach n L) where
 -- ---- what the reader answers, of an accepted image
 
 abbrev pub Passed : List Placed → List ℕ → Answer → List ℕ → Type 0
-Passed L img (refused r at) x = Unit {0}
+Passed L img (refused r at j) x = Unit {0}
 Passed L img (done y) x = AllProper L img × (x ≡ y)
 
 pub checked-accepts : (L : List Placed) (img x : List ℕ) (at : ℕ) → AllProper L img → checked at L img (done x) ≡ done x
@@ -121,7 +121,7 @@ pub checked-passes : (L : List Placed) (img x : List ℕ) (at : ℕ) → Passed 
 checked-passes [] img x at = (tt, refl)
 checked-passes (s ∷ L) img x at = go (isProper s img) refl (checked (suc at) L img (done x)) (checked-passes L img x (suc at))
   where
-    go : (t : Bool) → isProper s img ≡ t → (a : Answer) → Passed L img a x → Passed (s ∷ L) img (cond t a (refused 8 at)) x
+    go : (t : Bool) → isProper s img ≡ t → (a : Answer) → Passed L img a x → Passed (s ∷ L) img (cond t a (refused 8 at (s .argument))) x
     go false e a h = tt
-    go true e (refused r at′) h = tt
+    go true e (refused r at′ j) h = tt
     go true e (done y) h = ((e, h .0), h .1)

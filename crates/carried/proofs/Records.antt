@@ -21,17 +21,17 @@ module _ (c : Convention) (bodies : Bool) where
 
   -- a record that is taken has its body
   abbrev Uncut : ℕ → ℕ → Step (c .Placement) (c .State) → Type 0
-  Uncut left k (refuse r) = Unit {0}
-  Uncut left k (next p st) = behind bodies (c .placedAt k p .size) ≤ left
+  Uncut left k (refuse r j) = Unit {0}
+  Uncut left k (next j p st) = behind bodies (c .placedAt k j p .size) ≤ left
 
   uncut : (left k : ℕ) (s : Step (c .Placement) (c .State)) → Uncut left k (limited c bodies left k s)
-  uncut left k (refuse r) = tt
-  uncut left k (next p st) = go (ltb left (behind bodies (c .placedAt k p .size))) refl (c .fits st)
+  uncut left k (refuse r j) = tt
+  uncut left k (next j p st) = go (ltb left (behind bodies (c .placedAt k j p .size))) refl (c .fits st)
     where
-      go : (t : Bool) → ltb left (behind bodies (c .placedAt k p .size)) ≡ t → (u : Bool) → Uncut left k (cond t (refuse 4) (cond u (next p st) (refuse 5)))
+      go : (t : Bool) → ltb left (behind bodies (c .placedAt k j p .size)) ≡ t → (u : Bool) → Uncut left k (cond t (refuse 4 j) (cond u (next j p st) (refuse 5 j)))
       go true e u = tt
       go false e false = tt
-      go false e true = ltb-false left (behind bodies (c .placedAt k p .size)) e
+      go false e true = ltb-false left (behind bodies (c .placedAt k j p .size)) e
 
   module _ (list : List ℕ) where
     -- the plan from the record at this place on
@@ -51,15 +51,15 @@ module _ (c : Convention) (bodies : Bool) where
       here : onFrom at st ≡ after c at kindAt answered (λ size st′. from c bodies (suc at) st′ (behind bodies size) (drop (suc at) list))
       here = rw (drop-cons list at 0 h, length-drop (suc at) list, add-one at)
 
-      pub stopped : (r : ℕ) → answered ≡ refuse r → onFrom at st ≡ bad r at
-      stopped r e = here ∙ rw e
+      pub stopped : (r j : ℕ) → answered ≡ refuse r j → onFrom at st ≡ bad r at j
+      stopped r j e = here ∙ rw e
 
-      pub within : (p : c .Placement) (st′ : c .State) → answered ≡ next p st′ → at + 1 + behind bodies (c .placedAt kindAt p .size) ≤ length list
-      within p st′ e = omega (arith, subst (Uncut (length list - (at + 1)) kindAt) e (uncut (length list - (at + 1)) kindAt (c .step st kindAt)))
+      pub within : (j : ℕ) (p : c .Placement) (st′ : c .State) → answered ≡ next j p st′ → at + 1 + behind bodies (c .placedAt kindAt j p .size) ≤ length list
+      within j p st′ e = omega (arith, subst (Uncut (length list - (at + 1)) kindAt) e (uncut (length list - (at + 1)) kindAt (c .step st kindAt)))
 
-      pub passed : (p : c .Placement) (st′ : c .State) → answered ≡ next p st′
-          → onFrom at st ≡ also (c .placedAt kindAt p) (onFrom (at + 1 + behind bodies (c .placedAt kindAt p .size)) st′)
-      passed p st′ e =
-          let n : ℕ = behind bodies (c .placedAt kindAt p .size) in
-          let w : at + 1 + n ≤ length list = within p st′ e in
+      pub passed : (j : ℕ) (p : c .Placement) (st′ : c .State) → answered ≡ next j p st′
+          → onFrom at st ≡ also (c .placedAt kindAt j p) (onFrom (at + 1 + behind bodies (c .placedAt kindAt j p .size)) st′)
+      passed j p st′ e =
+          let n : ℕ = behind bodies (c .placedAt kindAt j p .size) in
+          let w : at + 1 + n ≤ length list = within j p st′ e in
           here ∙ rw (e, pass-body n (suc at) st′ (drop (suc at) list) (omega (arith, length-drop (suc at) list)), drop-drop n (suc at) list, add-one at)

@@ -39,7 +39,7 @@ Whole (s ∷ L) (k ∷ l) = (s .kind ≡ k) × (s .size ≤ length l) × Whole L
 
 module _ (c : Convention) (laws : Laws c) where
   abbrev Found : ℕ → List ℕ → Plan (c .State) → Type 0
-  Found n l (bad r at) = Unit {0}
+  Found n l (bad r at j) = Unit {0}
   Found n l (good L last) = n ≤ length l → Whole L (drop n l)
 
   found : (l : List ℕ) (at n : ℕ) (st : c .State) → Found n l (from c true at st n l)
@@ -47,28 +47,28 @@ module _ (c : Convention) (laws : Laws c) where
   found (b ∷ l) at (suc n) st = pass (from c true (suc at) st n l) (found l (suc at) n st)
     where
       pass : (q : Plan (c .State)) → Found n l q → Found (suc n) (b ∷ l) q
-      pass (bad r at′) w = tt
+      pass (bad r at′ j) w = tt
       pass (good L last) w = λ h. w (omega arith)
   found (k ∷ l) at zero st = go (c .step st k) (laws .steps st k) (λ n st′. found l (suc at) n st′)
     where
-      join : (p : c .Placement) (st′ : c .State) → StepLaws c (laws .Free) st k (c .placedAt k p) st′ → c .placedAt k p .size ≤ length l
-          → (q : Plan (c .State)) → Found (c .placedAt k p .size) l q → Found 0 (k ∷ l) (also (c .placedAt k p) q)
-      join p st′ e f (bad r at′) w = tt
-      join p st′ e f (good L last) w = λ h. (e .kind, f, w f)
+      join : (j : ℕ) (p : c .Placement) (st′ : c .State) → StepLaws c (laws .Free) st k (c .placedAt k j p) st′ → c .placedAt k j p .size ≤ length l
+          → (q : Plan (c .State)) → Found (c .placedAt k j p .size) l q → Found 0 (k ∷ l) (also (c .placedAt k j p) q)
+      join j p st′ e f (bad r at′ i) w = tt
+      join j p st′ e f (good L last) w = λ h. (e .kind, f, w f)
 
-      fit : (p : c .Placement) (st′ : c .State) → StepLaws c (laws .Free) st k (c .placedAt k p) st′ → (t u : Bool) → ltb (length l) (c .placedAt k p .size) ≡ t
+      fit : (j : ℕ) (p : c .Placement) (st′ : c .State) → StepLaws c (laws .Free) st k (c .placedAt k j p) st′ → (t u : Bool) → ltb (length l) (c .placedAt k j p .size) ≡ t
           → ((n : ℕ) (st″ : c .State) → Found n l (from c true (suc at) st″ n l))
-          → Found 0 (k ∷ l) (after c at k (cond t (refuse 4) (cond u (next p st′) (refuse 5))) (λ size st″. from c true (suc at) st″ (behind true size) l))
-      fit p st′ e true u f w = tt
-      fit p st′ e false false f w = tt
-      fit p st′ e false true f w =
-          let n : ℕ = c .placedAt k p .size in
-          join p st′ e (ltb-false (length l) n f) (from c true (suc at) st′ n l) (w n st′)
+          → Found 0 (k ∷ l) (after c at k (cond t (refuse 4 j) (cond u (next j p st′) (refuse 5 j))) (λ size st″. from c true (suc at) st″ (behind true size) l))
+      fit j p st′ e true u f w = tt
+      fit j p st′ e false false f w = tt
+      fit j p st′ e false true f w =
+          let n : ℕ = c .placedAt k j p .size in
+          join j p st′ e (ltb-false (length l) n f) (from c true (suc at) st′ n l) (w n st′)
 
       go : (s : Step (c .Placement) (c .State)) → StepLawful c (laws .Free) st k s → ((n : ℕ) (st′ : c .State) → Found n l (from c true (suc at) st′ n l))
           → Found 0 (k ∷ l) (after c at k (limited c true (length l) k s) (λ size st′. from c true (suc at) st′ (behind true size) l))
-      go (refuse r) e w = tt
-      go (next p st′) e w = fit p st′ e (ltb (length l) (c .placedAt k p .size)) (c .fits st′) refl w
+      go (refuse r j) e w = tt
+      go (next j p st′) e w = fit j p st′ e (ltb (length l) (c .placedAt k j p .size)) (c .fits st′) refl w
 
   -- a signature is planned as it was walked
   plan-signature : {st last : c .State} {ks : List ℕ} {L : List Placed} → Walk c laws st ks L last → (at : ℕ) → from c false at st 0 ks ≡ good L last

@@ -19,15 +19,15 @@ done-inj e = cc
 
 -- what an image that the reader accepts is, and that such an image is accepted
 abbrev Reads : ℕ → List Placed → List ℕ → Answer → Type 0
-Reads n L img (refused r at) = Unit {0}
+Reads n L img (refused r at j) = Unit {0}
 Reads n L img (done x) = Accepted n L img × (reading L img ≡ x)
 
-reads : (n : ℕ) (L : List Placed) (img : List ℕ) → Reads n L img (cond (eqb (length img) n) (checked 0 L img (done (reading L img))) (refused 6 0))
+reads : (n : ℕ) (L : List Placed) (img : List ℕ) → Reads n L img (cond (eqb (length img) n) (checked 0 L img (done (reading L img))) (refused 6 0 0))
 reads n L img = go (eqb (length img) n) refl (checked 0 L img (done (reading L img))) (checked-passes L img (reading L img) 0)
   where
-    go : (t : Bool) → eqb (length img) n ≡ t → (a : Answer) → Passed L img a (reading L img) → Reads n L img (cond t a (refused 6 0))
+    go : (t : Bool) → eqb (length img) n ≡ t → (a : Answer) → Passed L img a (reading L img) → Reads n L img (cond t a (refused 6 0 0))
     go false e a h = tt
-    go true e (refused r at) h = tt
+    go true e (refused r at j) h = tt
     go true e (done x) h = (record { whole = eqb-true (length img) n e; promoted = h .0 }, h .1)
 
 module _ (c : Convention) (laws : Laws c) (sig : List ℕ) (L : List Placed) (last : c .State) (ok : plan c false sig ≡ good L last) where

@@ -28,8 +28,8 @@ pub record StepLaws (c : Convention) (Free : c .State → ℕ → Type 0) (st : 
   pub grows : c .imageLength st ≤ c .imageLength st′
 
 abbrev pub StepLawful : (c : Convention) → (c .State → ℕ → Type 0) → c .State → ℕ → Step (c .Placement) (c .State) → Type 0
-StepLawful c Free st k (refuse r) = Unit {0}
-StepLawful c Free st k (next p st′) = StepLaws c Free st k (c .placedAt k p) st′
+StepLawful c Free st k (refuse r j) = Unit {0}
+StepLawful c Free st k (next j p st′) = StepLaws c Free st k (c .placedAt k j p) st′
 
 pub record Laws (c : Convention) : Type 1 where
   pub Free : c .State → ℕ → Type 0
@@ -39,8 +39,8 @@ module _ (c : Convention) (laws : Laws c) where
   -- the records of an accepted list or signature, step by step
   pub data Walk : c .State → List ℕ → List Placed → c .State → Type 0 where
     end : {st : c .State} → Walk st [] [] st
-    one : {st st′ last : c .State} {k : ℕ} {p : c .Placement} {ks : List ℕ} {L : List Placed}
-        → c .step st k ≡ next p st′ → c .fits st′ ≡ true → Walk st′ ks L last → Walk st (k ∷ ks) (c .placedAt k p ∷ L) last
+    one : {st st′ last : c .State} {k j : ℕ} {p : c .Placement} {ks : List ℕ} {L : List Placed}
+        → c .step st k ≡ next j p st′ → c .fits st′ ≡ true → Walk st′ ks L last → Walk st (k ∷ ks) (c .placedAt k j p ∷ L) last
 
   -- the records of a plan walk by some kinds; those of a signature by the signature itself
   pub record Walked (bodies : Bool) (n : ℕ) (l : List ℕ) (st : c .State) (L : List Placed) (last : c .State) : Type 0 where
@@ -49,7 +49,7 @@ module _ (c : Convention) (laws : Laws c) where
     pub all : bodies ≡ false → n ≡ 0 → kinds-of ≡ l
 
   abbrev Found : Bool → ℕ → List ℕ → c .State → Plan (c .State) → Type 0
-  Found bodies n l st (bad r at) = Unit {0}
+  Found bodies n l st (bad r at j) = Unit {0}
   Found bodies n l st (good L last) = Walked bodies n l st L last
 
   found : (bodies : Bool) (l : List ℕ) (at n : ℕ) (st : c .State) → Found bodies n l st (from c bodies at st n l)
@@ -57,27 +57,27 @@ module _ (c : Convention) (laws : Laws c) where
   found bodies (b ∷ l) at (suc n) st = pass (from c bodies (suc at) st n l) (found bodies l (suc at) n st)
     where
       pass : (q : Plan (c .State)) → Found bodies n l st q → Found bodies (suc n) (b ∷ l) st q
-      pass (bad r at′) w = tt
+      pass (bad r at′ j) w = tt
       pass (good L last) w = record { kinds-of = w .kinds-of; walk = w .walk; all = λ b z. absurd (omega arith) }
   found bodies (k ∷ l) at zero st = go (c .step st k) refl (λ n st′. found bodies l (suc at) n st′)
     where
-      join : (p : c .Placement) (st′ : c .State) → c .step st k ≡ next p st′ → c .fits st′ ≡ true → (n : ℕ) → (bodies ≡ false → n ≡ 0)
-          → (q : Plan (c .State)) → Found bodies n l st′ q → Found bodies 0 (k ∷ l) st (also (c .placedAt k p) q)
-      join p st′ e f n z (bad r at′) w = tt
-      join p st′ e f n z (good L last) w = record { kinds-of = k ∷ w .kinds-of; walk = one e f (w .walk); all = λ b y. ap (λ (r : List ℕ). k ∷ r) (w .all b (z b)) }
+      join : (j : ℕ) (p : c .Placement) (st′ : c .State) → c .step st k ≡ next j p st′ → c .fits st′ ≡ true → (n : ℕ) → (bodies ≡ false → n ≡ 0)
+          → (q : Plan (c .State)) → Found bodies n l st′ q → Found bodies 0 (k ∷ l) st (also (c .placedAt k j p) q)
+      join j p st′ e f n z (bad r at′ i) w = tt
+      join j p st′ e f n z (good L last) w = record { kinds-of = k ∷ w .kinds-of; walk = one e f (w .walk); all = λ b y. ap (λ (r : List ℕ). k ∷ r) (w .all b (z b)) }
 
-      fit : (p : c .Placement) (st′ : c .State) → c .step st k ≡ next p st′ → (t u : Bool) → c .fits st′ ≡ u → ((n : ℕ) (st″ : c .State) → Found bodies n l st″ (from c bodies (suc at) st″ n l))
-          → Found bodies 0 (k ∷ l) st (after c at k (cond t (refuse 4) (cond u (next p st′) (refuse 5))) (λ size st″. from c bodies (suc at) st″ (behind bodies size) l))
-      fit p st′ e true u f w = tt
-      fit p st′ e false false f w = tt
-      fit p st′ e false true f w =
-          let n : ℕ = behind bodies (c .placedAt k p .size) in
-          join p st′ e f n (λ b. rw b refl) (from c bodies (suc at) st′ n l) (w n st′)
+      fit : (j : ℕ) (p : c .Placement) (st′ : c .State) → c .step st k ≡ next j p st′ → (t u : Bool) → c .fits st′ ≡ u → ((n : ℕ) (st″ : c .State) → Found bodies n l st″ (from c bodies (suc at) st″ n l))
+          → Found bodies 0 (k ∷ l) st (after c at k (cond t (refuse 4 j) (cond u (next j p st′) (refuse 5 j))) (λ size st″. from c bodies (suc at) st″ (behind bodies size) l))
+      fit j p st′ e true u f w = tt
+      fit j p st′ e false false f w = tt
+      fit j p st′ e false true f w =
+          let n : ℕ = behind bodies (c .placedAt k j p .size) in
+          join j p st′ e f n (λ b. rw b refl) (from c bodies (suc at) st′ n l) (w n st′)
 
       go : (s : Step (c .Placement) (c .State)) → c .step st k ≡ s → ((n : ℕ) (st′ : c .State) → Found bodies n l st′ (from c bodies (suc at) st′ n l))
           → Found bodies 0 (k ∷ l) st (after c at k (limited c bodies (length l) k s) (λ size st′. from c bodies (suc at) st′ (behind bodies size) l))
-      go (refuse r) e w = tt
-      go (next p st′) e w = fit p st′ e (ltb (length l) (behind bodies (c .placedAt k p .size))) (c .fits st′) refl w
+      go (refuse r j) e w = tt
+      go (next j p st′) e w = fit j p st′ e (ltb (length l) (behind bodies (c .placedAt k j p .size))) (c .fits st′) refl w
 
   pub walked : (bodies : Bool) (l : List ℕ) (at n : ℕ) (st : c .State) (L : List Placed) (last : c .State) → from c bodies at st n l ≡ good L last → Walked bodies n l st L last
   walked bodies l at n st L last e = subst (Found bodies n l st) e (found bodies l at n st)
@@ -87,11 +87,11 @@ module _ (c : Convention) (laws : Laws c) where
       let w : Walked false 0 ks st L last = walked false ks at 0 st L last e in
       subst (λ (x : List ℕ). Walk st x L last) (w .all refl refl) (w .walk)
 
-  laws-at : {st st′ : c .State} {k : ℕ} {p : c .Placement} → c .step st k ≡ next p st′ → StepLaws c (laws .Free) st k (c .placedAt k p) st′
-  laws-at {st} {st′} {k} {p} e = subst (StepLawful c (laws .Free) st k) e (laws .steps st k)
+  laws-at : {st st′ : c .State} {k j : ℕ} {p : c .Placement} → c .step st k ≡ next j p st′ → StepLaws c (laws .Free) st k (c .placedAt k j p) st′
+  laws-at {st} {st′} {k} {j} {p} e = subst (StepLawful c (laws .Free) st k) e (laws .steps st k)
 
-  pub sized-at : {st st′ : c .State} {k : ℕ} {p : c .Placement} → c .step st k ≡ next p st′
-      → (b : List ℕ) → length b ≡ c .placedAt k p .size → length (promote (c .placedAt k p .extension) b) ≡ length (c .placedAt k p .carriers)
+  pub sized-at : {st st′ : c .State} {k j : ℕ} {p : c .Placement} → c .step st k ≡ next j p st′
+      → (b : List ℕ) → length b ≡ c .placedAt k j p .size → length (promote (c .placedAt k j p .extension) b) ≡ length (c .placedAt k j p .carriers)
   sized-at e = laws-at e .sized
 
   pub walk-kinds : {st last : c .State} {ks : List ℕ} {L : List Placed} → Walk st ks L last → kinds L ≡ ks
@@ -112,18 +112,18 @@ module _ (c : Convention) (laws : Laws c) where
 
   walk-free : {st last : c .State} {ks : List ℕ} {L : List Placed} → Walk st ks L last → (p : ℕ) → In p (carried L) → laws .Free st p
   walk-free end p m = absurd m
-  walk-free (one {k = k} {p = q} {L = L} e f w) p m =
-      in-cases (c .placedAt k q .carriers) (carried L) p m (laws-at e .free p) (λ m′. laws-at e .keeps p (walk-free w p m′))
+  walk-free (one {k = k} {j = j} {p = q} {L = L} e f w) p m =
+      in-cases (c .placedAt k j q .carriers) (carried L) p m (laws-at e .free p) (λ m′. laws-at e .keeps p (walk-free w p m′))
 
   walk-inside : {st last : c .State} {ks : List ℕ} {L : List Placed} → Walk st ks L last → (p : ℕ) → In p (carried L) → p < c .imageLength last
   walk-inside end p m = absurd m
-  walk-inside (one {k = k} {p = q} {L = L} e f w) p m =
-      in-cases (c .placedAt k q .carriers) (carried L) p m (λ m′. omega (arith, laws-at e .inside p m′, walk-grows w)) (λ m′. walk-inside w p m′)
+  walk-inside (one {k = k} {j = j} {p = q} {L = L} e f w) p m =
+      in-cases (c .placedAt k j q .carriers) (carried L) p m (λ m′. omega (arith, laws-at e .inside p m′, walk-grows w)) (λ m′. walk-inside w p m′)
 
   walk-distinct : {st last : c .State} {ks : List ℕ} {L : List Placed} → Walk st ks L last → Distinct (carried L)
   walk-distinct end = tt
-  walk-distinct (one {k = k} {p = q} {L = L} e f w) =
-      distinct-append (c .placedAt k q .carriers) (carried L) (laws-at e .apart) (walk-distinct w) (λ p m m′. laws-at e .used p m (walk-free w p m′))
+  walk-distinct (one {k = k} {j = j} {p = q} {L = L} e f w) =
+      distinct-append (c .placedAt k j q .carriers) (carried L) (laws-at e .apart) (walk-distinct w) (λ p m m′. laws-at e .used p m (walk-free w p m′))
 
   pub walk-one-each : {st last : c .State} {ks : List ℕ} {L : List Placed} → Walk st ks L last → OneEach (c .imageLength last) L
   walk-one-each w = record { sized = walk-sized w; distinct = walk-distinct w; inside = λ p m. walk-inside w p m }
@@ -139,13 +139,13 @@ module _ (c : Convention) (laws : Laws c) where
   pub plan-reading : {st last : c .State} {ks : List ℕ} {L : List Placed} → Walk st ks L last → (img : List ℕ) (at : ℕ)
       → from c true at st 0 (reading L img) ≡ good L last
   plan-reading end img at = refl
-  plan-reading (one {st = st} {st′ = st′} {last = last} {k = k} {p = p} {L = L} e f w) img at =
-      let s : Placed = c .placedAt k p in
+  plan-reading (one {st = st} {st′ = st′} {last = last} {k = k} {j = j} {p = p} {L = L} e f w) img at =
+      let s : Placed = c .placedAt k j p in
       let b : List ℕ = body (s .size) (bytesIn s img) in
       let lb : length b ≡ s .size = length-body s img (fits-carriers s (laws-at e .sized)) in
       let uncut : ltb (length (b ++ reading L img)) (s .size) ≡ false =
       le-ltb (length (b ++ reading L img)) (s .size) (rw length-append (omega arith)) in
       subst
-      (λ (j : ℕ). after c at j (taken c true (length (b ++ reading L img)) st j) (λ size st″. from c true (suc at) st″ (behind true size) (b ++ reading L img)) ≡ good (s ∷ L) last)
+      (λ (x : ℕ). after c at x (taken c true (length (b ++ reading L img)) st x) (λ size st″. from c true (suc at) st″ (behind true size) (b ++ reading L img)) ≡ good (s ∷ L) last)
       (sym (laws-at e .kind))
       (rw (e, uncut, f, pass b (reading L img) (s .size) (suc at) st′ (good L last) lb (λ at′. plan-reading w img at′)) refl)

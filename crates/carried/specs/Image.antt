@@ -16,10 +16,12 @@ put img [] vs = img
 put img (p ∷ ps) [] = img
 put img (p ∷ ps) (v ∷ vs) = put (set img p v) ps vs
 
--- A record of a list with its place in the image: its kind byte, the bytes of its body, what promotion puts in front of them,
--- and the image bytes that carry its bytes after promotion, in their order. (A marker has none.)
+-- A record of a list with its place in the image: its kind byte, its argument's number, the bytes of its body, what promotion
+-- puts in front of them, and the image bytes that carry its bytes after promotion, in their order. (A marker has none, and the
+-- number 0.)
 pub record Placed : Type 0 where
   pub kind : ℕ
+  pub argument : ℕ
   pub size : ℕ
   pub extension : Extension
   pub carriers : List ℕ
@@ -45,14 +47,14 @@ abbrev pub reading : List Placed → List ℕ → List ℕ
 reading [] img = []
 reading (s ∷ L) img = s .kind ∷ (body (s .size) (gather img (s .carriers)) ++ reading L img)
 
--- What the writer and the reader answer: the bytes, or the refusal's number and place.
+-- What the writer and the reader answer: the bytes, or the refusal's number, its place and the argument's number.
 pub data Answer : Type 0 where
   done : List ℕ → Answer
-  refused : ℕ → ℕ → Answer
+  refused : ℕ → ℕ → ℕ → Answer
 
 -- Refusal 8 at the first kind whose bytes are no proper promotion, or else this answer. (Where promotion adds nothing, any
 -- bytes are proper.)
 abbrev pub checked : ℕ → List Placed → List ℕ → Answer → Answer
 checked at [] img a = a
 checked at (s ∷ L) img a =
-    cond (proper (s .extension) (s .size) (gather img (s .carriers))) (checked (suc at) L img a) (refused 8 at)
+    cond (proper (s .extension) (s .size) (gather img (s .carriers))) (checked (suc at) L img a) (refused 8 at (s .argument))

@@ -60,12 +60,12 @@ module _ (d : Device) (r : Request) {y : Layout} (l : y ≡ layoutOf d r) where
         general-le = omega (arith, general-small a);
       }
 
-  pub code-refused : (y .refusal ≡ 0 → ⊥) → (ws : List ℕ) (room : ℕ) → codeInto d r ws room ≡ C.refused (y .refusal) 0
+  pub code-refused : (y .refusal ≡ 0 → ⊥) → (ws : List ℕ) (room : ℕ) → codeInto d r ws room ≡ C.refused (y .refusal) 0 0
   unfolding codeInto
   code-refused n ws room = rw refusal-is (simp (ne-eqb (refusalOf d r) 0 (λ e. n (refusal-is ∙ e))))
 
 module _ (d : Device) (r : Request) (ws : List ℕ) (room : ℕ) (e : refusalOf d r ≡ 0) where
-  pub code-short : room < length (bytesOfWords ws) → codeInto d r ws room ≡ C.refused 13 0
+  pub code-short : room < length (bytesOfWords ws) → codeInto d r ws room ≡ C.refused 13 0 0
   unfolding codeInto
   code-short h = simp (eq-eqb (refusalOf d r) 0 e, lt-ltb _ _ h)
 
@@ -76,7 +76,7 @@ module _ (d : Device) (r : Request) (ws : List ℕ) (room : ℕ) (e : refusalOf 
 -- the words' bytes, put at the start of a buffer that has room for them
 pub finished : (d : Device) (r : Request) (ws buf : List ℕ) {n : ℕ} {out : List ℕ} → refusalOf d r ≡ 0 → n ≡ length (bytesOfWords ws) → n ≤ length buf
     → out ≡ sets buf 0 (bytesOfWords ws)
-    → (record { refusal = 0; place = 0; length = n } ≡ answerOf (codeInto d r ws (length buf))) × (out ≡ bufferOf (codeInto d r ws (length buf)) buf)
+    → (record { refusal = 0; place = 0; argument = 0; length = n } ≡ answerOf (codeInto d r ws (length buf))) × (out ≡ bufferOf (codeInto d r ws (length buf)) buf)
 finished d r ws buf e q h s =
     let fits : length (bytesOfWords ws) ≤ length buf = omega arith in
     rw (code-done d r ws (length buf) e fits, q)

@@ -29,7 +29,7 @@ unfolding codeInto
 wrote d r ws buf = go (eqb (refusalOf d r) 0) (ltb (length buf) (length (bytesOfWords ws))) refl
   where
     answer : (accepted short : Bool) → C.Answer
-    answer accepted short = cond accepted (cond short (C.refused 13 0) (C.done (bytesOfWords ws))) (C.refused (refusalOf d r) 0)
+    answer accepted short = cond accepted (cond short (C.refused 13 0 0) (C.done (bytesOfWords ws))) (C.refused (refusalOf d r) 0 0)
 
     go : (accepted short : Bool) → eqb (refusalOf d r) 0 ≡ accepted → answerOf (answer accepted short) .refusal ≡ 0
         → (refusalOf d r ≡ 0) × (take (answerOf (answer accepted short) .length) (bufferOf (answer accepted short) buf) ≡ bytesOfWords ws)

@@ -12,7 +12,7 @@ use Rattle.saves.specs.Words.{prologueWords, epilogueWords, bytesOfWords}
 
 -- Refusals 9, 14, 10, 11 and 12, then "13: code buffer too short", then the words, into a code buffer with so many bytes.
 unfoldable pub codeInto : Device → Request → List ℕ → ℕ → C.Answer
-codeInto d r ws room = cond (eqb (refusalOf d r) 0) (within 13 room (C.done (bytesOfWords ws))) (C.refused (refusalOf d r) 0)
+codeInto d r ws room = cond (eqb (refusalOf d r) 0) (within 13 room (C.done (bytesOfWords ws))) (C.refused (refusalOf d r) 0 0)
 
 abbrev pub prologueInto : Device → Request → ℕ → C.Answer
 prologueInto d r room = codeInto d r (prologueWords r) room

@@ -180,19 +180,19 @@ pub fn prologue(device: Device, request: Request, out: &mut [u8]) -> Answer
     let layout = layout_of(device, request);
     let number = layout.refusal;
     if number != 0 {
-        return answers::reply(number, 0, 0);
+        return answers::reply(number, 0, 0, 0);
     }
     let frame = layout.frame;
     if frame == 0 {
-        return answers::reply(0, 0, 0);
+        return answers::reply(0, 0, 0, 0);
     }
     let length = 4 + saves_length(request);
     if out.len() < length { // all of it, before the first store
-        return answers::reply(13, 0, 0);
+        return answers::reply(13, 0, 0, 0);
     }
     words::write_word(out, 0, 0x27BD_0000 + negated(frame));
     put_saves(out, 4, 0xE7A0_0000, 0xAFA0_0000, request, layout);
-    answers::reply(0, 0, length)
+    answers::reply(0, 0, 0, length)
 }
 
 // The word in the delay slot: `addiu $sp,$sp,f`, or 00000000 where there is no frame.
@@ -211,15 +211,15 @@ pub fn epilogue(device: Device, request: Request, out: &mut [u8]) -> Answer
     let layout = layout_of(device, request);
     let number = layout.refusal;
     if number != 0 {
-        return answers::reply(number, 0, 0);
+        return answers::reply(number, 0, 0, 0);
     }
     let length = saves_length(request) + 8;
     if out.len() < length {
-        return answers::reply(13, 0, 0);
+        return answers::reply(13, 0, 0, 0);
     }
     let slot = delay_slot(layout.frame);
     let last = put_saves(out, 0, 0xC7A0_0000, 0x8FA0_0000, request, layout);
     words::write_word(out, last, 0x03E0_0008);
     words::write_word(out, last + 4, slot);
-    answers::reply(0, 0, length)
+    answers::reply(0, 0, 0, length)
 }

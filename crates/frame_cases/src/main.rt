@@ -27,7 +27,7 @@ fn print_number(name: &[u8], n: u32) {
 
 fn print_layout(layout: Layout) {
     if layout.refusal != 0 || layout.place != 0 {
-        lines::print_refusal(layout.refusal, layout.place as usize);
+        lines::print_refusal(layout.refusal, layout.place as usize, 0);
     }
     print_number(b"F ", layout.frame);
     print_number(b", B ", layout.build);

@@ -11,10 +11,10 @@ fn print_image(image: &[u8]) {
     io::write_all(STDOUT_FILENO, &out[..n]);
 }
 
-// A refusal as a line: 13 bytes and the digits of two numbers.
-fn print_refusal(number: u32, place: usize) {
-    let mut out = [0u8; 43];
-    let n = text::refusal_text(number, place, &mut out);
+// A refusal as a line: 23 bytes and the digits of three numbers, at most 10, 20 and 20.
+fn print_refusal(number: u32, place: usize, argument: usize) {
+    let mut out = [0u8; 73];
+    let n = text::refusal_text(number, place, argument, &mut out);
     io::write_all(STDOUT_FILENO, &out[..n]);
 }
 
@@ -27,6 +27,6 @@ fn main() {
         let length = answer.length;
         print_image(&image[..length]);
     } else {
-        print_refusal(answer.refusal, answer.place);
+        print_refusal(answer.refusal, answer.place, answer.argument);
     }
 }

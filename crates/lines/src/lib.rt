@@ -175,10 +175,10 @@ pub fn malformed() {
     print(b"malformed\n");
 }
 
-// The line of a refusal.
-pub fn print_refusal(number: u32, place: usize) {
-    let mut out = [0u8; 43];
-    let n = text::refusal_text(number, place, &mut out);
+// A refusal as a line: 23 bytes and the digits of three numbers, at most 10, 20 and 20.
+pub fn print_refusal(number: u32, place: usize, argument: usize) {
+    let mut out = [0u8; 73];
+    let n = text::refusal_text(number, place, argument, &mut out);
     print(&out[..n]);
 }
 
@@ -212,8 +212,8 @@ fn is_kept(out: &[u8], from: usize) -> bool {
 
 // An answer, and the buffer behind it.
 pub fn show(answer: Answer, out: &[u8]) {
-    if answer.refusal != 0 || answer.place != 0 {
-        print_refusal(answer.refusal, answer.place);
+    if answer.refusal != 0 || answer.place != 0 || answer.argument != 0 {
+        print_refusal(answer.refusal, answer.place, answer.argument);
     }
     let length = answer.length;
     if length <= out.len() {

@@ -14,7 +14,7 @@ use Rattle.carried.proofs.Records.{onFrom, finished, stopped, within, passed}
 use Rattle.o32.specs.declared.Kind.{Kind}
 use Rattle.o32.specs.declared.State.{State}
 use Rattle.o32.specs.Kinds.{kindOf}
-use Rattle.o32.specs.O32.{O32, onward, placement, start}
+use Rattle.o32.specs.O32.{O32, argument, onward, placement, start}
 use Rattle.placement.proofs.KindFacts.{kind-sound}
 use Rattle.placement.proofs.Bounds.{Grown, Grows, grows, Held, held-starts, held-on, held-place}
 use Rattle.records.specs.declared.Record.{Record}
@@ -27,15 +27,15 @@ use Rattle.measure.specs.Measured.{measured}
 
 -- the answer, where records of n bytes stand before
 abbrev further : ℕ → Measured → Measured
-further n (M.Refused r p) = M.Refused r p
+further n (M.Refused r p j) = M.Refused r p j
 further n (M.Accepted m e) = M.Accepted (n + m) e
 
 further-also : (n : ℕ) (s : Placed) (q : Plan State) → further n (measured (also s q)) ≡ further (n + 1 + s .size) (measured q)
-further-also n s (bad r at) = refl
+further-also n s (bad r at j) = refl
 further-also n s (good L st) = ap (λ (x : ℕ). M.Accepted x (st .end)) (omega arith)
 
 further-none : (q : Measured) → further 0 q ≡ q
-further-none (M.Refused r p) = refl
+further-none (M.Refused r p j) = refl
 further-none (M.Accepted m e) = ap (λ (x : ℕ). M.Accepted x e) (omega arith)
 
 -- at this place and state, behind records of n bytes, the walk has found what the whole list has
@@ -63,19 +63,19 @@ module _ (bodies : Bool) (list : List ℕ) (st : State) (n at : ℕ) (w : Walkin
   abbrev k : ℕ
   k = getD list at 0
 
-  pub walk-refused : (r : ℕ) (m : Measured) → t ≡ R.Refused r → m ≡ M.Refused r at → (d : Device) → m ≡ measured (plan (O32 d) bodies list)
-  walk-refused r m g q d =
-      q ∙ sym (w .ahead d ∙ ap (λ (p : Plan State). further n (measured p)) (stopped (O32 d) bodies list at st h r (step-refused _ r (sym (e d) ∙ g))))
+  pub walk-refused : (r j : ℕ) (m : Measured) → t ≡ R.Refused r j → m ≡ M.Refused r at j → (d : Device) → m ≡ measured (plan (O32 d) bodies list)
+  walk-refused r j m g q d =
+      q ∙ sym (w .ahead d ∙ ap (λ (p : Plan State). further n (measured p)) (stopped (O32 d) bodies list at st h r j (step-refused _ r j (sym (e d) ∙ g))))
 
-  module _ (kd : Kind) (st′ : State) (g : t ≡ R.Taken kd st′) where
+  module _ (j : ℕ) (kd : Kind) (st′ : State) (g : t ≡ R.Taken j kd st′) where
     here : (d : Device) → Took d bodies (length list - (at + 1)) st k kd st′
-    here d = took d bodies st k (length list - (at + 1)) kd st′ (sym g ∙ e d)
+    here d = took d bodies st k (length list - (at + 1)) j kd st′ (sym g ∙ e d)
 
     -- what is the same on every device, taken from one
     one : Took Fpu bodies (length list - (at + 1)) st k kd st′
     one = here Fpu
 
-    grew : Grown st (kindOf k) (placement Fpu st (kindOf k)) (onward st (kindOf k))
+    grew : Grown st (kindOf k) (argument st (kindOf k)) (placement Fpu st (kindOf k)) (onward st (kindOf k))
     grew = subst (Grows st (kindOf k)) (one .placed .step) (grows Fpu st (kindOf k) (kind-sound k))
 
     size-is : kd .size ≡ kindOf k .size
@@ -86,7 +86,7 @@ module _ (bodies : Bool) (list : List ℕ) (st : State) (n at : ℕ) (w : Walkin
 
     module _ (b : ℕ) (i : b ≡ behind bodies (kd .size)) where
       walk-within : at + 1 + b ≤ length list
-      walk-within = rw (i, one .kind) (within (O32 Fpu) bodies list at st h (placement Fpu st (kindOf k)) (onward st (kindOf k)) (one .placed .whole))
+      walk-within = rw (i, one .kind) (within (O32 Fpu) bodies list at st h (argument st (kindOf k)) (placement Fpu st (kindOf k)) (onward st (kindOf k)) (one .placed .whole))
 
       pub walk-fits : length list < 2 ^ 64 → at + 1 + b < 2 ^ 64
       walk-fits l = omega (arith, walk-within)
@@ -99,7 +99,7 @@ module _ (bodies : Bool) (list : List ℕ) (st : State) (n at : ℕ) (w : Walkin
         inside = walk-within;
         ahead = λ d.
             rw (i, one .kind) (w .ahead d
-            ∙ ap (λ (q : Plan State). further n (measured q)) (passed (O32 d) bodies list at st h (placement d st (kindOf k)) (onward st (kindOf k)) (here d .placed .whole))
-            ∙ further-also n (O32 d .placedAt k (placement d st (kindOf k))) (onFrom (O32 d) bodies list (at + 1 + behind bodies (kindOf k .size)) (onward st (kindOf k))));
+            ∙ ap (λ (q : Plan State). further n (measured q)) (passed (O32 d) bodies list at st h (argument st (kindOf k)) (placement d st (kindOf k)) (onward st (kindOf k)) (here d .placed .whole))
+            ∙ further-also n (O32 d .placedAt k (argument st (kindOf k)) (placement d st (kindOf k))) (onFrom (O32 d) bodies list (at + 1 + behind bodies (kindOf k .size)) (onward st (kindOf k))));
         held = held-on (w .held) grew (one .placed .fits) (n + 1 + kd .size) 0 (omega (arith, size-is));
       })

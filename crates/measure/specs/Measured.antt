@@ -5,7 +5,8 @@ use Rattle.records.specs.Records.{listLength}
 use Rattle.measure.specs.declared.Measured.{Measured}
 use Rattle.measure.specs.declared.Measured.the-variants as M
 
--- The answer of a whole list or signature: the refusal and its place, or the length of the list and its last argument's end.
+-- The answer of a whole list or signature: the refusal, its place and its argument, or the length of the list and its last
+-- argument's end.
 abbrev pub measured : Plan State → Measured
-measured (bad r at) = M.Refused r at
+measured (bad r at n) = M.Refused r at n
 measured (good L st) = M.Accepted (listLength L) (st .end)

@@ -9,18 +9,30 @@ ghost use Rattle.o32.specs.O32.{O32};
 ghost use Rattle.measure.specs.Measured.{measured};
 use records::Record;
 
-// What a list or a signature answers: the first refusal and its place, or the length of the list and its last argument's end.
+// What a list or a signature answers: the first refusal, its place and its argument's number, or the length of the list and its
+// last argument's end.
 pub enum Measured {
-    Refused { number: u32, place: usize },
-    Accepted { length: usize, end: usize },
+    Refused {
+        number: u32,
+        place: usize,
+        argument: usize,
+    },
+    Accepted {
+        length: usize,
+        end: usize,
+    },
 }
 
 // A refused record's answer, as that of the whole.
 fn refusal(answer: Record, place: usize) -> Measured
-    ensures { λ r. ⌜ ((n : ℕ) → answer ≡ Record.Refused n → r ≡ Measured.Refused n place) ⌝ }
+    ensures { λ r. ⌜ ((n j : ℕ) → answer ≡ Record.Refused n j → r ≡ Measured.Refused n place j) ⌝ }
 {
     match answer {
-        Record::Refused(number) => Measured::Refused { number, place },
+        Record::Refused(number, argument) => Measured::Refused {
+            number,
+            place,
+            argument,
+        },
         _ => Measured::Accepted { length: 0, end: 0 },
     }
 }
@@ -35,7 +47,7 @@ fn measure(list: &[u8], bodies: bool) -> Measured
     while at < list.len() {
         let left = list.len() - (at + 1);
         let answer = records::take(st, list[at], bodies, left);
-        let Record::Taken { kind, next } = answer else {
+        let Record::Taken(_, kind, next) = answer else {
             return refusal(answer, at);
         };
         length = length + 1 + kind.size;
@@ -48,14 +60,15 @@ fn measure(list: &[u8], bodies: bool) -> Measured
     }
 }
 
-// The records of a list: refusals 1 to 5 with their place, or the length of the list and its last argument's end.
+// The records of a list: refusals 1 to 5 with place and argument, or the length of the list and its last argument's end.
 pub fn measure_list(list: &[u8]) -> Measured
     ensures { λ r. ⌜ ((d : Device) → r ≡ measured (plan (O32 d) true (now (list .entry)))) ⌝ }
 {
     measure(list, true)
 }
 
-// The records of a signature: refusals 1, 2, 3 and 5 with their place, or the length of the list and its last argument's end.
+// The records of a signature: refusals 1, 2, 3 and 5 with place and argument, or the length of the list and its last argument's
+// end.
 pub fn measure_signature(signature: &[u8]) -> Measured
     ensures { λ r. ⌜ ((d : Device) → r ≡ measured (plan (O32 d) false (now (signature .entry)))) ⌝ }
 {

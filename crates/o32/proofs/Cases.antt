@@ -23,7 +23,7 @@ wordBytes (w ∷ ws) = bytesOf 4 w ++ wordBytes ws
 
 abbrev gives : Answer → List ℕ → Bool
 gives (done img) expected = same img expected
-gives (refused r at) expected = false
+gives (refused r at k) expected = false
 
 abbrev hold : List Case → Bool
 hold [] = true
@@ -87,16 +87,34 @@ table =
 bench-cases : T (hold table)
 bench-cases = tt
 
--- The edges: what is refused and where. A signature that is accepted comes to refusal 6, since the image is empty.
-abbrev refuses : Answer → ℕ → ℕ → Bool
-refuses (done img) number place = false
-refuses (refused r at) number place = eqb r number && eqb at place
+-- The edges: what is refused, where, and at which argument. A signature that is accepted comes to refusal 6, since the image is
+-- empty.
+abbrev refuses : Answer → ℕ → ℕ → ℕ → Bool
+refuses (done img) number place argument = false
+refuses (refused r at k) number place argument = eqb r number && eqb at place && eqb k argument
 
-edges : T (refuses (read (O32 Fpu) (replicate 32 0x05) []) 6 0
-    && refuses (read (O32 Fpu) (replicate 33 0x05) []) 3 32
-    && refuses (read (O32 Fpu) (0xFF ∷ 0xFF ∷ []) []) 6 0
-    && refuses (read (O32 Fpu) (0xFF ∷ 0xFF ∷ 0x05 ∷ []) []) 5 2
-    && refuses (write (O32 Fpu) (0x05 ∷ 0 ∷ [])) 4 0
-    && refuses (write (O32 Fpu) marker) 2 0
-    && refuses (read (O32 Fpu) (0x01 ∷ []) (wordBytes (0x80 ∷ replicate 11 0))) 8 0)
+edges : T (refuses (read (O32 Fpu) (replicate 32 0x05) []) 6 0 0
+    && refuses (read (O32 Fpu) (replicate 33 0x05) []) 3 32 33
+    && refuses (read (O32 Fpu) (0xFF ∷ 0xFF ∷ []) []) 6 0 0
+    && refuses (read (O32 Fpu) (0xFF ∷ 0xFF ∷ 0x05 ∷ []) []) 5 2 3
+    && refuses (write (O32 Fpu) (0x05 ∷ 0 ∷ [])) 4 0 1
+    && refuses (write (O32 Fpu) marker) 2 0 0
+    && refuses (read (O32 Fpu) (0x01 ∷ []) (wordBytes (0x80 ∷ replicate 11 0))) 8 0 1)
 edges = tt
+
+-- Request (iv) of document 02, the argument's number where the edges have none or the first: behind other arguments, and behind a
+-- marker, which counts for the place and not for the number.
+numbers : T (refuses (read (O32 Fpu) (replicate 32 0x05 ++ marker ++ (0x05 ∷ [])) []) 3 33 33
+    -- a misplaced return pointer has the number that it would have, also the 33rd
+    && refuses (read (O32 Fpu) (0x05 ∷ 0x0B ∷ []) []) 2 1 2
+    && refuses (read (O32 Fpu) (replicate 32 0x05 ++ (0x0B ∷ [])) []) 2 32 33
+    -- a second marker, a marker behind a return pointer alone, an unknown kind: none
+    && refuses (write (O32 Fpu) (n 1 ++ marker ++ marker)) 2 6 0
+    && refuses (write (O32 Fpu) (pointer 1 ++ marker)) 2 5 0
+    && refuses (write (O32 Fpu) (n 1 ++ marker ++ (0x09 ∷ []))) 1 6 0
+    -- a body cut off, and an end beyond 1,024, behind a marker
+    && refuses (write (O32 Fpu) (n 1 ++ marker ++ (0x05 ∷ 0 ∷ []))) 4 6 2
+    && refuses (read (O32 Fpu) (0xFF ∷ 0xFF ∷ 0x0A ∷ 0x05 ∷ []) []) 5 3 3
+    -- no proper promotion, likewise
+    && refuses (read (O32 Fpu) (0x05 ∷ 0x0A ∷ 0x01 ∷ []) (wordBytes (0 ∷ 0x80 ∷ replicate 10 0))) 8 2 2)
+numbers = tt

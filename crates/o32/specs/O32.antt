@@ -80,17 +80,23 @@ onward st k = cond (is Marker k)
       marked = st .marked;
     })
 
+-- The number of the argument that a record is or would be: the arguments before it and itself. A marker is none, and an unknown
+-- kind neither. Request (iv) of document 02: "At a record that would be argument k it is k; at a misplaced marker or an unknown
+-- kind 0."
+abbrev pub argument : State → Kind → ℕ
+argument st k = cond (is Unknown k || is Marker k) 0 (st .count + 1)
+
 -- The placement of a record: rules 2 and 3.
 abbrev pub placement : Device → State → Kind → Placement
 placement d st k = record { kind = k; offset = offset k (st .end); register = register d st k }
 
--- Refusals 1, 2 and 3 in their order, or the record's placement.
+-- Refusals 1, 2 and 3 in their order, or the record's placement; with its argument's number.
 abbrev pub stepped : Device → State → Kind → Step Placement State
 stepped d st k =
-    cond (is Unknown k) (refuse 1)
-    (cond (misplaced st k) (refuse 2)
-    (cond (full st k) (refuse 3)
-    (next (placement d st k) (onward st k))))
+    cond (is Unknown k) (refuse 1 (argument st k))
+    (cond (misplaced st k) (refuse 2 (argument st k))
+    (cond (full st k) (refuse 3 (argument st k))
+    (next (argument st k) (placement d st k) (onward st k))))
 
 -- The state before the first record.
 abbrev pub start : State
@@ -103,7 +109,7 @@ O32 d = record {
   Placement = Placement;
   start = start;
   step = λ st k. stepped d st (kindOf k);
-  placedAt = λ k p. record { kind = k; size = p .kind .size; extension = extension (p .kind); carriers = carriers p };
+  placedAt = λ k n p. record { kind = k; argument = n; size = p .kind .size; extension = extension (p .kind); carriers = carriers p };
   fits = λ st. leb (st .end) 1024;
   imageLength = λ st. 32 + area (st .end);
 }

@@ -1,5 +1,5 @@
 -- How far a plan reaches: each record takes its bytes of the arguments' end and counts as one argument, or it is the one marker.
--- So every refusal's place, and the length of every accepted list, is at most 1,024 + 32 + 1.
+-- So every refusal's place, and the length of every accepted list, is at most 1,024 + 32 + 1, and an argument's number at most 33.
 -- Assumes nothing.
 use mathlib.Core.Path.{_≡_, refl, subst}
 use mathlib.Core.List.{List, [], _∷_}
@@ -18,7 +18,7 @@ use Rattle.o32.specs.declared.State.{State}
 use Rattle.o32.specs.declared.Placement.{Placement}
 use Rattle.o32.specs.Kinds.{kindOf, is}
 use Rattle.o32.specs.Offsets.{width}
-use Rattle.o32.specs.O32.{misplaced, full, onward, placement, stepped, start, O32}
+use Rattle.o32.specs.O32.{misplaced, full, argument, onward, placement, stepped, start, O32}
 use Rattle.placement.proofs.KindFacts.{Sound, kind-sound}
 use Rattle.placement.proofs.Laws.{up-ge}
 
@@ -29,14 +29,22 @@ abbrev room : State → ℕ
 room st = st .end + st .count + cond (st .marked) 1 0
 
 -- a record that is placed has room for its kind byte and its body
-pub record Grown (st : State) (k : Kind) (p : Placement) (st′ : State) : Type 0 where
+pub record Grown (st : State) (k : Kind) (j : ℕ) (p : Placement) (st′ : State) : Type 0 where
+  number : j ≤ st .count + 1
   size : p .kind .size ≡ k .size
   more : room st + 1 + k .size ≤ room st′
-  few : st .count ≤ 32 → st′ .count ≤ 32
+  pub few : st .count ≤ 32 → st′ .count ≤ 32
 
 abbrev pub Grows : State → Kind → Step Placement State → Type 0
-Grows st k (refuse r) = Unit {0}
-Grows st k (next p st′) = Grown st k p st′
+Grows st k (refuse r j) = j ≤ st .count + 1
+Grows st k (next j p st′) = Grown st k j p st′
+
+pub argument-le : (st : State) (k : Kind) → argument st k ≤ st .count + 1
+argument-le st k = go (is Unknown k || is Marker k)
+  where
+    go : (t : Bool) → cond t 0 (st .count + 1) ≤ st .count + 1
+    go true = omega arith
+    go false = omega arith
 
 -- a marker stands at most once
 unmarked : (t m a b : Bool) → (t && (m || a)) || b ≡ false → t ≡ true → m ≡ false
@@ -57,18 +65,19 @@ module _ (d : Device) (st : State) (k : Kind) (s : Sound k) where
       go true e = omega (arith, s .promoted e)
       go false e = omega arith
 
-  grown : is Unknown k ≡ false → misplaced st k ≡ false → full st k ≡ false → Grown st k (placement d st k) (onward st k)
+  grown : is Unknown k ≡ false → misplaced st k ≡ false → full st k ≡ false → Grown st k (argument st k) (placement d st k) (onward st k)
   grown u e f = go (is Marker k) refl
     where
-      go : (t : Bool) → is Marker k ≡ t → Grown st k (placement d st k) (onward st k)
+      go : (t : Bool) → is Marker k ≡ t → Grown st k (argument st k) (placement d st k) (onward st k)
       go true g =
           let m : st .marked ≡ false = unmarked (is Marker k) (st .marked) _ _ e g in
           let z : (k .size ≡ 0) × (k .alignment ≡ 0) = s .markers g in
-          record { size = refl; more = rw (g, m) (omega arith); few = rw g (λ h. h) }
+          record { number = argument-le st k; size = refl; more = rw (g, m) (omega arith); few = rw g (λ h. h) }
       go false g =
           let n : leb 32 (st .count) ≡ false = not-full (is Marker k) (leb 32 (st .count)) f g in
           let a : 1 ≤ k .alignment = s .aligned (rw (u, g) refl) in
           record {
+            number = argument-le st k;
             size = refl;
             more = rw g (omega (arith, up-ge (k .alignment) (st .end) a, up-ge 4 (width k) (omega arith), size-le));
             few = rw g (λ h. omega (arith, leb-false 32 (st .count) n));
@@ -78,10 +87,10 @@ module _ (d : Device) (st : State) (k : Kind) (s : Sound k) where
   grows = go (is Unknown k) (misplaced st k) (full st k) refl refl refl
     where
       go : (u m f : Bool) → is Unknown k ≡ u → misplaced st k ≡ m → full st k ≡ f
-          → Grows st k (cond u (refuse 1) (cond m (refuse 2) (cond f (refuse 3) (next (placement d st k) (onward st k)))))
-      go true m f h e g = tt
-      go false true f h e g = tt
-      go false false true h e g = tt
+          → Grows st k (cond u (refuse 1 (argument st k)) (cond m (refuse 2 (argument st k)) (cond f (refuse 3 (argument st k)) (next (argument st k) (placement d st k) (onward st k)))))
+      go true m f h e g = argument-le st k
+      go false true f h e g = argument-le st k
+      go false false true h e g = argument-le st k
       go false false false h e g = grown h e g
 
 -- ---- all steps
@@ -90,24 +99,30 @@ module _ (d : Device) (st : State) (k : Kind) (s : Sound k) where
 pub record Held (at n : ℕ) (st : State) : Type 0 where
   before : at + n ≤ room st
   pub fits : st .end ≤ 1024
-  few : st .count ≤ 32
+  pub few : st .count ≤ 32
 
 pub held-starts : Held 0 0 start
 held-starts = record { before = omega arith; fits = omega arith; few = omega arith }
 
 -- a record that is placed passes on what holds, to any byte of it and behind it
-pub held-on : {at : ℕ} {st st′ : State} {k : Kind} {p : Placement} → Held at 0 st → Grown st k p st′ → st′ .end ≤ 1024 → (a b : ℕ) → a + b ≤ at + 1 + k .size → Held a b st′
+pub held-on : {at : ℕ} {st st′ : State} {k : Kind} {j : ℕ} {p : Placement} → Held at 0 st → Grown st k j p st′ → st′ .end ≤ 1024 → (a b : ℕ) → a + b ≤ at + 1 + k .size → Held a b st′
 held-on h g f a b l = record { before = omega (arith, h .before, g .more); fits = f; few = g .few (h .few) }
 
--- n bytes that are accepted, and the state behind them
-pub record Reached (n : ℕ) (last : State) : Type 0 where
+-- the arguments' numbers
+abbrev pub Numbers : List Placed → Type 0
+Numbers [] = Unit {0}
+Numbers (s ∷ L) = (s .argument ≤ 33) × Numbers L
+
+-- n bytes that are accepted, their records, and the state behind them
+pub record Reached (n : ℕ) (L : List Placed) (last : State) : Type 0 where
   pub long : n ≤ 1057
+  pub numbers : Numbers L
   pub fits : last .end ≤ 1024
 
--- the place of a refusal, or the bytes of what is accepted
+-- the place and the argument of a refusal, or the bytes of what is accepted
 abbrev Reaches : ℕ → Plan State → Type 0
-Reaches n (bad r p) = p ≤ 1057
-Reaches n (good L last) = Reached n last
+Reaches n (bad r p j) = (p ≤ 1057) × (j ≤ 33)
+Reaches n (good L last) = Reached n L last
 
 one-marker : (t : Bool) → cond t 1 0 ≤ 1
 one-marker true = omega arith
@@ -120,35 +135,35 @@ behind-le : (bodies : Bool) (n : ℕ) → behind bodies n ≤ n
 behind-le true n = omega arith
 behind-le false n = omega arith
 
-also-reaches : (n m : ℕ) (s : Placed) (q : Plan State) → n ≡ m → Reaches n q → Reaches m (also s q)
-also-reaches n m s (bad r p) e h = h
-also-reaches n m s (good L last) e h = record { long = omega (arith, h .long); fits = h .fits }
+also-reaches : (n m : ℕ) (s : Placed) (q : Plan State) → n ≡ m → s .argument ≤ 33 → Reaches n q → Reaches m (also s q)
+also-reaches n m s (bad r p j) e a h = h
+also-reaches n m s (good L last) e a h = record { long = omega (arith, h .long); numbers = (a, h .numbers); fits = h .fits }
 
 reaches : (d : Device) (bodies : Bool) (l : List ℕ) (at n : ℕ) (st : State) → Held at n st → Reaches (at + length l) (from (O32 d) bodies at st n l)
-reaches d bodies [] at n st h = record { long = omega (arith, held-place at n st h); fits = h .fits }
+reaches d bodies [] at n st h = record { long = omega (arith, held-place at n st h); numbers = tt; fits = h .fits }
 reaches d bodies (b ∷ l) at (suc n) st h =
     subst (λ (m : ℕ). Reaches m (from (O32 d) bodies (suc at) st n l)) (omega arith)
     (reaches d bodies l (suc at) n st (record { before = omega (arith, h .before); fits = h .fits; few = h .few }))
 reaches d bodies (k ∷ l) at zero st h = go (O32 d .step st k) (grows d st (kindOf k) (kind-sound k)) (λ n st′ w. reaches d bodies l (suc at) n st′ w)
   where
-    here : at ≤ 1057
-    here = omega (arith, held-place at 0 st h)
+    here : (j : ℕ) → j ≤ st .count + 1 → (at ≤ 1057) × (j ≤ 33)
+    here j a = (omega (arith, held-place at 0 st h), omega (arith, h .few))
 
-    fit : (p : Placement) (st′ : State) → Grown st (kindOf k) p st′ → (t u : Bool) → leb (st′ .end) 1024 ≡ u
+    fit : (j : ℕ) (p : Placement) (st′ : State) → Grown st (kindOf k) j p st′ → (t u : Bool) → leb (st′ .end) 1024 ≡ u
         → ((n : ℕ) (st″ : State) → Held (suc at) n st″ → Reaches (suc at + length l) (from (O32 d) bodies (suc at) st″ n l))
-        → Reaches (at + length (k ∷ l)) (after (O32 d) at k (cond t (refuse 4) (cond u (next p st′) (refuse 5))) (λ size st″. from (O32 d) bodies (suc at) st″ (behind bodies size) l))
-    fit p st′ g true u f rest = here
-    fit p st′ g false false f rest = here
-    fit p st′ g false true f rest =
+        → Reaches (at + length (k ∷ l)) (after (O32 d) at k (cond t (refuse 4 j) (cond u (next j p st′) (refuse 5 j))) (λ size st″. from (O32 d) bodies (suc at) st″ (behind bodies size) l))
+    fit j p st′ g true u f rest = here j (g .number)
+    fit j p st′ g false false f rest = here j (g .number)
+    fit j p st′ g false true f rest =
         let n : ℕ = behind bodies (p .kind .size) in
         let w : Held (suc at) n st′ = held-on h g (leb-true (st′ .end) 1024 f) (suc at) n (omega (arith, g .size, behind-le bodies (p .kind .size))) in
-        also-reaches (suc at + length l) (at + length (k ∷ l)) (O32 d .placedAt k p) (from (O32 d) bodies (suc at) st′ n l) (omega arith) (rest n st′ w)
+        also-reaches (suc at + length l) (at + length (k ∷ l)) (O32 d .placedAt k j p) (from (O32 d) bodies (suc at) st′ n l) (omega arith) (here j (g .number) .1) (rest n st′ w)
 
     go : (s : Step Placement State) → Grows st (kindOf k) s
         → ((n : ℕ) (st′ : State) → Held (suc at) n st′ → Reaches (suc at + length l) (from (O32 d) bodies (suc at) st′ n l))
         → Reaches (at + length (k ∷ l)) (after (O32 d) at k (limited (O32 d) bodies (length l) k s) (λ size st′. from (O32 d) bodies (suc at) st′ (behind bodies size) l))
-    go (refuse r) g rest = here
-    go (next p st′) g rest = fit p st′ g (ltb (length l) (behind bodies (p .kind .size))) (leb (st′ .end) 1024) refl rest
+    go (refuse r j) g rest = here j g
+    go (next j p st′) g rest = fit j p st′ g (ltb (length l) (behind bodies (p .kind .size))) (leb (st′ .end) 1024) refl rest
 
 -- ---- a whole list or signature
 
@@ -156,10 +171,10 @@ module _ (d : Device) (bodies : Bool) (l : List ℕ) where
   planned : Reaches (0 + length l) (plan (O32 d) bodies l)
   planned = reaches d bodies l 0 0 start held-starts
 
-  pub place-bound : (r p : ℕ) → plan (O32 d) bodies l ≡ bad r p → p ≤ 1057
-  place-bound r p e = subst (Reaches (0 + length l)) e planned
+  pub refusal-bound : (r p j : ℕ) → plan (O32 d) bodies l ≡ bad r p j → (p ≤ 1057) × (j ≤ 33)
+  refusal-bound r p j e = subst (Reaches (0 + length l)) e planned
 
-  pub plan-bound : (L : List Placed) (last : State) → plan (O32 d) bodies l ≡ good L last → Reached (length l) last
+  pub plan-bound : (L : List Placed) (last : State) → plan (O32 d) bodies l ≡ good L last → Reached (length l) L last
   plan-bound L last e =
-      let w : Reached (0 + length l) last = subst (Reaches (0 + length l)) e planned in
-      record { long = omega (arith, w .long); fits = w .fits }
+      let w : Reached (0 + length l) L last = subst (Reaches (0 + length l)) e planned in
+      record { long = omega (arith, w .long); numbers = w .numbers; fits = w .fits }

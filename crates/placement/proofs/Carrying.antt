@@ -1,6 +1,6 @@
 -- The law of carried bytes, for every argument of every accepted signature on every device.
 -- Assumes nothing.
-use mathlib.Core.Path.{_≡_, refl, sym, ap, _∙_, subst}
+use mathlib.Core.Path.{_≡_, refl, sym, ap, ap₂, _∙_, subst}
 use mathlib.Core.Logic.{_⊎_, inl, inr}
 use mathlib.Core.List.{List, [], _∷_, _++_, map}
 use mathlib.Core.Bool.{Bool, true, false, cond, _&&_, and-false}
@@ -24,7 +24,7 @@ use Rattle.o32.specs.declared.State.{State}
 use Rattle.o32.specs.declared.Placement.{Placement}
 use Rattle.o32.specs.Kinds.{kindOf, is}
 use Rattle.o32.specs.Offsets.{width, offset, ending}
-use Rattle.o32.specs.O32.{floatRegister, register, run, floatRegisters, registerBytes, floatBytes, carrier, carriers, misplaced, onward, placement, start, O32}
+use Rattle.o32.specs.O32.{floatRegister, register, run, floatRegisters, registerBytes, floatBytes, carrier, carriers, misplaced, argument, onward, placement, start, O32}
 use Rattle.placement.specs.Carrying.{endOf, registerBehind, CarriedAt, InRuns}
 use Rattle.placement.proofs.KindFacts.{kind-sound, structure, unpromoted-width, float-width}
 use Rattle.placement.proofs.Steps.{Stepped, Says, says}
@@ -72,15 +72,17 @@ late-register st (inr n) = rw (ne-eqb (st .count) 0 (λ e. omega arith), n .1, a
 -- ---- a walk over an accepted signature, taken apart at its first record
 
 record First (d : Device) (st : State) (k : ℕ) (ks : List ℕ) (L : List Placed) (last : State) : Type 0 where
+  number : ℕ
   place : Placement
   behind : State
   rest : List Placed
-  stepped-so : Stepped d st (kindOf k) place behind
-  records : L ≡ O32 d .placedAt k place ∷ rest
+  stepped-so : Stepped d st (kindOf k) number place behind
+  records : L ≡ O32 d .placedAt k number place ∷ rest
   walk : Walk (O32 d) (O32-laws d) behind ks rest last
 
 first : {d : Device} {st : State} {k : ℕ} {ks : List ℕ} {L : List Placed} {last : State} → Walk (O32 d) (O32-laws d) st (k ∷ ks) L last → First d st k ks L last
-first {d} {st} (one {st′ = st′} {k = k} {p = p} {L = L} e f w) = record {
+first {d} {st} (one {st′ = st′} {k = k} {j = j} {p = p} {L = L} e f w) = record {
+  number = j;
   place = p;
   behind = st′;
   rest = L;
@@ -95,11 +97,12 @@ then {d = d} {ks = ks} {last = last} w = subst (λ (x : State). Walk (O32 d) (O3
 
 -- the record of this kind is placed by the state behind the kinds before
 placed-so : (d : Device) (before : List ℕ) (st : State) (k : ℕ) (behind : List ℕ) (L : List Placed) (last : State) → Walk (O32 d) (O32-laws d) st (before ++ (k ∷ behind)) L last
-    → (M : List Placed) (s : Placed) (N : List Placed) → L ≡ M ++ (s ∷ N) → length M ≡ length before → s ≡ O32 d .placedAt k (placement d (reach st before) (kindOf k))
+    → (M : List Placed) (s : Placed) (N : List Placed) → L ≡ M ++ (s ∷ N) → length M ≡ length before
+    → s ≡ O32 d .placedAt k (argument (reach st before) (kindOf k)) (placement d (reach st before) (kindOf k))
 placed-so d [] st k behind L last w [] s N e h =
     let a : First d st k behind L last = first w in
-    let i : s ≡ O32 d .placedAt k (a .place) = cc (a .records) in
-    i ∙ ap (O32 d .placedAt k) (a .stepped-so .at)
+    let i : s ≡ O32 d .placedAt k (a .number) (a .place) = cc (a .records) in
+    i ∙ ap₂ (O32 d .placedAt k) (a .stepped-so .number) (a .stepped-so .at)
 placed-so d [] st k behind L last w (m ∷ M) s N e h = absurd (omega arith)
 placed-so d (j ∷ before) st k behind L last w [] s N e h = absurd (omega arith)
 placed-so d (j ∷ before) st k behind L last w (m ∷ M) s N e h =
@@ -188,8 +191,8 @@ floats-only Fpu (j ∷ i ∷ js) k h = absurd (omega arith)
 
 -- ---- the law
 
-module _ (d : Device) (before : List ℕ) (k : ℕ) (s : Placed)
-    (is-so : s ≡ O32 d .placedAt k (record { kind = kindOf k; offset = offset (kindOf k) (endOf 0 before); register = registerBehind d before k })) where
+module _ (d : Device) (before : List ℕ) (k j : ℕ) (s : Placed)
+    (is-so : s ≡ O32 d .placedAt k j (record { kind = kindOf k; offset = offset (kindOf k) (endOf 0 before); register = registerBehind d before k })) where
   abbrev cs : List ℕ
   cs = s .carriers
 
@@ -234,7 +237,7 @@ module _ (d : Device) (before : List ℕ) (k : ℕ) (s : Placed)
 -- At every accepted signature, the record of every kind byte is placed by the kinds before,
 placed-behind : (d : Device) (before : List ℕ) (k : ℕ) (behind : List ℕ) (L : List Placed) (last : State) → plan (O32 d) false (before ++ (k ∷ behind)) ≡ good L last
     → (M : List Placed) (s : Placed) (N : List Placed) → L ≡ M ++ (s ∷ N) → length M ≡ length before
-    → s ≡ O32 d .placedAt k (record { kind = kindOf k; offset = offset (kindOf k) (endOf 0 before); register = registerBehind d before k })
+    → s ≡ O32 d .placedAt k (argument (reach start before) (kindOf k)) (record { kind = kindOf k; offset = offset (kindOf k) (endOf 0 before); register = registerBehind d before k })
 placed-behind d before k behind L last ok M s N e h =
     let w : Walk (O32 d) (O32-laws d) start (before ++ (k ∷ behind)) L last = walk-of (O32 d) (O32-laws d) (before ++ (k ∷ behind)) start L last 0 ok in
     placed-so d before start k behind L last w M s N e h
@@ -243,7 +246,7 @@ placed-behind d before k behind L last ok M s N e h =
 -- and is carried as `CarriedAt` says.
 pub carried-at : (d : Device) (before : List ℕ) (k : ℕ) (behind : List ℕ) (L : List Placed) (last : State) → plan (O32 d) false (before ++ (k ∷ behind)) ≡ good L last
     → (M : List Placed) (s : Placed) (N : List Placed) → L ≡ M ++ (s ∷ N) → length M ≡ length before → CarriedAt d before k s
-carried-at d before k behind L last ok M s N e h = law d before k s (placed-behind d before k behind L last ok M s N e h)
+carried-at d before k behind L last ok M s N e h = law d before k _ s (placed-behind d before k behind L last ok M s N e h)
 
 -- Request (iii) of document 02: at every accepted signature, on every device, a structure lies in the runs of `InRuns`.
 pub structure-in-runs : (d : Device) (before : List ℕ) (k : ℕ) (behind : List ℕ) (L : List Placed) (last : State) → plan (O32 d) false (before ++ (k ∷ behind)) ≡ good L last
@@ -259,7 +262,7 @@ structure-in-runs d before k behind L last ok M s N e h = record {
 
     cs : 0x40 ≤ k → (o n : ℕ) → o ≡ offset (kindOf k) (endOf 0 before) → n ≡ kindOf k .size → s .carriers ≡ span o n
     cs g o n x y =
-        by-offset d before k s (placed-behind d before k behind L last ok M s N e h)
+        by-offset d before k _ s (placed-behind d before k behind L last ok M s N e h)
         (no-register (registerBehind d before k) refl (structure k g .no-float))
         ∙ rw (x, y) (ap (span (offset (kindOf k) (endOf 0 before))) (unpromoted-width (kindOf k) (structure k g .unpromoted)))
 
@@ -267,9 +270,9 @@ structure-in-runs d before k behind L last ok M s N e h = record {
 
 outside : {st last : State} {ks : List ℕ} {L : List Placed} → Walk (O32 NoFpu) (O32-laws NoFpu) st ks L last → (p : ℕ) → In p (carried L) → (p < 16) ⊎ (48 ≤ p)
 outside end p m = absurd m
-outside (one {st = st} {st′ = st′} {k = k} {p = place} {L = L} e f w) p m = in-cases (carriers place) (carried L) p m
+outside (one {st = st} {st′ = st′} {k = k} {j = j} {p = place} {L = L} e f w) p m = in-cases (carriers place) (carried L) p m
     (λ i.
-    let s : Stepped NoFpu st (kindOf k) place st′ = subst (Says NoFpu st (kindOf k)) e (says NoFpu st (kindOf k)) in
+    let s : Stepped NoFpu st (kindOf k) j place st′ = subst (Says NoFpu st (kindOf k)) e (says NoFpu st (kindOf k)) in
     let q : carriers place ≡ map carrier (run (offset (kindOf k) (st .end)) (width (kindOf k))) = ap carriers (s .at) ∙ rw (none (is Float (kindOf k))) in
     span-outside (width (kindOf k)) (offset (kindOf k) (st .end)) p (subst (In p) q i))
     (λ i. outside w p i)

@@ -197,9 +197,9 @@ and-left false b t = t
 
 module _ (d : Device) where
   -- an argument by its offset: m bytes from o on
-  module _ (st : State) (k n : ℕ) (e : Extension) (o m : ℕ) (st′ : State) where
+  module _ (st : State) (k : ℕ) {j : ℕ} (n : ℕ) (e : Extension) (o m : ℕ) (st′ : State) where
     laid : st .end ≤ o → o + m ≤ st′ .end → st .count ≤ st′ .count → ((b : List ℕ) → length b ≡ n → length (promote e b) ≡ m)
-        → StepLaws (O32 d) Free st k (record { kind = k; size = n; extension = e; carriers = span o m }) st′
+        → StepLaws (O32 d) Free st k (record { kind = k; argument = j; size = n; extension = e; carriers = span o m }) st′
     laid h g l z = record {
       kind = refl;
       sized = λ b x. z b x ∙ sym (length-span m o);
@@ -212,9 +212,9 @@ module _ (d : Device) where
     }
 
   -- a float in the register pair f
-  module _ (st : State) (k n f : ℕ) (st′ : State) where
+  module _ (st : State) (k : ℕ) {j : ℕ} (n f : ℕ) (st′ : State) where
     floated : 12 ≤ f → 4 * (f - 12) ≡ 8 * st .count → st .count < 2 → (n ≡ 4) ⊎ (n ≡ 8) → st .end ≤ st′ .end → st′ .count ≡ st .count + 1
-        → StepLaws (O32 d) Free st k (record { kind = k; size = n; extension = zeros 0; carriers = floatBytes f n }) st′
+        → StepLaws (O32 d) Free st k (record { kind = k; argument = j; size = n; extension = zeros 0; carriers = floatBytes f n }) st′
     floated h q c z g l = record {
       kind = refl;
       sized = λ b x. x ∙ sym (length-float f n z);
@@ -229,16 +229,16 @@ module _ (d : Device) where
   abbrev Gives : State → ℕ → Step Placement State → Type 0
   Gives st k s = StepLawful (O32 d) Free st k s
 
-  unless : (st : State) (k : ℕ) (t : Bool) (r : ℕ) (s : Step Placement State) → Gives st k s → Gives st k (cond t (refuse r) s)
-  unless st k true r s h = tt
-  unless st k false r s h = h
+  unless : (st : State) (k : ℕ) (t : Bool) (r j : ℕ) (s : Step Placement State) → Gives st k s → Gives st k (cond t (refuse r j) s)
+  unless st k true r j s h = tt
+  unless st k false r j s h = h
 
   module _ (st : State) (k n a : ℕ) where
     abbrev of : Class → Kind
     of c = record { size = n; alignment = a; class = c }
 
-    by-offset : (e : Extension) (m : ℕ) (st′ : State) → st′ .end ≡ up a (st .end) + up 4 m → st′ .count ≡ st .count + 1 → 1 ≤ a
-        → ((b : List ℕ) → length b ≡ n → length (promote e b) ≡ m) → StepLaws (O32 d) Free st k (record { kind = k; size = n; extension = e; carriers = span (up a (st .end)) m }) st′
+    by-offset : {j : ℕ} (e : Extension) (m : ℕ) (st′ : State) → st′ .end ≡ up a (st .end) + up 4 m → st′ .count ≡ st .count + 1 → 1 ≤ a
+        → ((b : List ℕ) → length b ≡ n → length (promote e b) ≡ m) → StepLaws (O32 d) Free st k (record { kind = k; argument = j; size = n; extension = e; carriers = span (up a (st .end)) m }) st′
     by-offset e m st′ x y h = laid st k n e (up a (st .end)) m st′ (up-ge a (st .end) h) (omega (arith, ends (up a (st .end)) m)) (omega arith)
 
     grown : Sound (of Float) → st .end ≤ ending (of Float) (st .end)
@@ -246,7 +246,7 @@ module _ (d : Device) where
 
     -- a float with this register of rule 3, or by offset
     abbrev Placing : ℕ → Type 0
-    Placing f = Gives st k (next (record { kind = of Float; offset = up a (st .end); register = f }) (onward st (of Float)))
+    Placing f = Gives st k (next (st .count + 1) (record { kind = of Float; offset = up a (st .end); register = f }) (onward st (of Float)))
 
     by-register : (t u : Bool) → eqb (st .count) 0 ≡ t → eqb (st .count) 1 && st .floating && not (st .marked) ≡ u → Sound (of Float) → Placing (cond t 12 (cond u 14 0))
     by-register true u e f s =
@@ -263,16 +263,16 @@ module _ (d : Device) where
 
     step-gives : (c : Class) → Sound (of c) → Gives st k (stepped d st (of c))
     step-gives Unknown s = tt
-    step-gives Marker s = unless st k (misplaced st (of Marker)) 2 _
+    step-gives Marker s = unless st k (misplaced st (of Marker)) 2 _ _
         (rw (s .markers refl .0) (laid st k 0 (zeros 0) (st .end) 0 _ (omega arith) (omega arith) (omega arith) (λ b x. x)))
     step-gives Pointer s =
-        unless st k (misplaced st (of Pointer)) 2 _ (unless st k (full st (of Pointer)) 3 _ (by-offset (zeros 0) n _ refl refl (s .aligned refl) (λ b x. x)))
+        unless st k (misplaced st (of Pointer)) 2 _ _ (unless st k (full st (of Pointer)) 3 _ _ (by-offset (zeros 0) n _ refl refl (s .aligned refl) (λ b x. x)))
     step-gives Signed s =
-        unless st k (full st (of Signed)) 3 _ (by-offset (toWord true n) 4 _ refl refl (s .aligned refl) (λ b. word-length true n b (omega (arith, s .promoted refl))))
+        unless st k (full st (of Signed)) 3 _ _ (by-offset (toWord true n) 4 _ refl refl (s .aligned refl) (λ b. word-length true n b (omega (arith, s .promoted refl))))
     step-gives Unsigned s =
-        unless st k (full st (of Unsigned)) 3 _ (by-offset (toWord false n) 4 _ refl refl (s .aligned refl) (λ b. word-length false n b (omega (arith, s .promoted refl))))
-    step-gives Float s = unless st k (full st (of Float)) 3 _ (by-device d s)
-    step-gives Plain s = unless st k (full st (of Plain)) 3 _ (by-offset (zeros 0) n _ refl refl (s .aligned refl) (λ b x. x))
+        unless st k (full st (of Unsigned)) 3 _ _ (by-offset (toWord false n) 4 _ refl refl (s .aligned refl) (λ b. word-length false n b (omega (arith, s .promoted refl))))
+    step-gives Float s = unless st k (full st (of Float)) 3 _ _ (by-device d s)
+    step-gives Plain s = unless st k (full st (of Plain)) 3 _ _ (by-offset (zeros 0) n _ refl refl (s .aligned refl) (λ b x. x))
 
   pub O32-laws : Laws (O32 d)
   O32-laws = record {

@@ -4,3 +4,4 @@ pub mod Runs
 pub mod Steps
 pub mod Carrying
 pub mod Bounds
+pub mod Numbering

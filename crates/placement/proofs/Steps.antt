@@ -18,31 +18,33 @@ use Rattle.o32.specs.declared.Placement.{Placement}
 use Rattle.o32.specs.Kinds.{kindOf, is, classNumber}
 use Rattle.words.specs.Words.{up}
 use Rattle.o32.specs.Offsets.{width, offset}
-use Rattle.o32.specs.O32.{floatRegister, register, misplaced, full, onward, placement, stepped, O32}
+use Rattle.o32.specs.O32.{floatRegister, register, misplaced, full, argument, onward, placement, stepped, O32}
 use Rattle.placement.proofs.KindFacts.{kind-sound}
 use Rattle.placement.proofs.Laws.{up-ge}
 
-pub record Stepped (d : Device) (st : State) (k : Kind) (p : Placement) (st′ : State) : Type 0 where
+pub record Stepped (d : Device) (st : State) (k : Kind) (j : ℕ) (p : Placement) (st′ : State) : Type 0 where
+  pub number : j ≡ argument st k
   pub at : p ≡ placement d st k
   pub on : st′ ≡ onward st k
   pub rightly : misplaced st k ≡ false
   pub few : full st k ≡ false
 
 abbrev pub Says : Device → State → Kind → Step Placement State → Type 0
-Says d st k (refuse r) = Unit {0}
-Says d st k (next p st′) = Stepped d st k p st′
+Says d st k (refuse r j) = j ≡ argument st k
+Says d st k (next j p st′) = Stepped d st k j p st′
 
 pub says : (d : Device) (st : State) (k : Kind) → Says d st k (stepped d st k)
 says d st k = go (is Unknown k) (misplaced st k) (full st k) refl refl
   where
-    go : (u m f : Bool) → misplaced st k ≡ m → full st k ≡ f → Says d st k (cond u (refuse 1) (cond m (refuse 2) (cond f (refuse 3) (next (placement d st k) (onward st k)))))
-    go true m f e g = tt
-    go false true f e g = tt
-    go false false true e g = tt
-    go false false false e g = record { at = refl; on = refl; rightly = e; few = g }
+    go : (u m f : Bool) → misplaced st k ≡ m → full st k ≡ f
+        → Says d st k (cond u (refuse 1 (argument st k)) (cond m (refuse 2 (argument st k)) (cond f (refuse 3 (argument st k)) (next (argument st k) (placement d st k) (onward st k)))))
+    go true m f e g = refl
+    go false true f e g = refl
+    go false false true e g = refl
+    go false false false e g = record { number = refl; at = refl; on = refl; rightly = e; few = g }
 
-pub step-says : (d : Device) (st : State) (k : ℕ) (p : Placement) (st′ : State) → O32 d .step st k ≡ next p st′ → Stepped d st (kindOf k) p st′
-step-says d st k p st′ e = subst (Says d st (kindOf k)) e (says d st (kindOf k))
+pub step-says : (d : Device) (st : State) (k j : ℕ) (p : Placement) (st′ : State) → O32 d .step st k ≡ next j p st′ → Stepped d st (kindOf k) j p st′
+step-says d st k j p st′ e = subst (Says d st (kindOf k)) e (says d st (kindOf k))
 
 -- ---- where a record ends
 

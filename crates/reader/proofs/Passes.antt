@@ -18,7 +18,7 @@ use Rattle.o32.specs.declared.State.{State}
 use Rattle.o32.specs.declared.Placement.{Placement}
 use Rattle.o32.specs.Kinds.{kindOf}
 use Rattle.o32.specs.Offsets.{extension}
-use Rattle.o32.specs.O32.{O32, carriers, onward, placement, run, start}
+use Rattle.o32.specs.O32.{O32, carriers, argument, onward, placement, run, start}
 use Rattle.block.proofs.Stores.{put-next}
 use Rattle.records.proofs.Ahead.{Ahead, ahead-starts, ahead-ends, ahead-sized, Behind, ahead-turn}
 use Rattle.reader.specs.declared.Checked.{Checked}
@@ -27,7 +27,7 @@ use Rattle.reader.specs.Reading.{firstImproper, improperIn, readingIn, d
 
 -- in a signature the next kind stands behind this one
 next-behind : {d : Device} {sig : List ℕ} {m : ℕ} (st : State) (at : ℕ) (w : Ahead d false sig m st at) → at < length sig → (kd : Kind) → kd ≡ kindOf (getD sig at 0)
-    → (p : Placement) → p ≡ placement d st kd → (st′ : State) → st′ ≡ onward st kd → Behind d false sig m at (w .placed) p st′ (at + 1)
+    → (p : Placement) → p ≡ placement d st kd → (st′ : State) → st′ ≡ onward st kd → Behind d false sig m at (w .placed) (argument st kd) p st′ (at + 1)
 next-behind {d = d} {sig = sig} {m = m} st at w h kd e p g st′ o = ahead-turn d false sig m st at w h kd e p g st′ o (at + 1) (omega arith)
 
 -- ---- refusal 8
@@ -48,21 +48,21 @@ module _ (d : Device) (sig img : List ℕ) (found : Checked) (st : State) (at : 
     (kd : Kind) (e : kd ≡ kindOf (getD sig at 0)) (p : Placement) (g : p ≡ placement d st kd)
     (u : Bool) (a : u ≡ proper (extension (p .kind)) (p .kind .size) (gather img (carriers p))) where
   -- what is found from here on, by this record's test
-  decided : (t : Bool) → u ≡ t → (L : List Placed) → w .ahead .placed ≡ O32 d .placedAt (getD sig at 0) p ∷ L → found ≡ cond t (firstImproper (at + 1) L img) (K.Improper at)
+  decided : (t : Bool) → u ≡ t → (L : List Placed) → w .ahead .placed ≡ O32 d .placedAt (getD sig at 0) (argument st kd) p ∷ L → found ≡ cond t (firstImproper (at + 1) L img) (K.Improper at (argument st kd))
   decided t b L c =
       w .same
       ∙ ap (λ (M : List Placed). firstImproper at M img) c
       ∙ (rw (a, add-one at))
-      ∙ ap (λ (x : Bool). cond x (firstImproper (at + 1) L img) (K.Improper at)) b
+      ∙ ap (λ (x : Bool). cond x (firstImproper (at + 1) L img) (K.Improper at (argument st kd))) b
 
-  pub check-stops : u ≡ false → K.Improper at ≡ found
-  check-stops b =
-      let v : Behind d false sig (length img) at (w .ahead .placed) p (onward st kd) (at + 1) = next-behind st at (w .ahead) h kd e p g (onward st kd) refl in
-      sym (decided false b (v .rest .placed) (v .split))
+  pub check-stops : u ≡ false → (j : ℕ) → j ≡ argument st kd → K.Improper at j ≡ found
+  check-stops b j n =
+      let v : Behind d false sig (length img) at (w .ahead .placed) (argument st kd) p (onward st kd) (at + 1) = next-behind st at (w .ahead) h kd e p g (onward st kd) refl in
+      ap (K.Improper at) n ∙ sym (decided false b (v .rest .placed) (v .split))
 
   pub check-turn : u ≡ true → (st′ : State) → st′ ≡ onward st kd → Checking d sig img found st′ (at + 1)
   check-turn b st′ o =
-      let v : Behind d false sig (length img) at (w .ahead .placed) p st′ (at + 1) = next-behind st at (w .ahead) h kd e p g st′ o in
+      let v : Behind d false sig (length img) at (w .ahead .placed) (argument st kd) p st′ (at + 1) = next-behind st at (w .ahead) h kd e p g st′ o in
       record { ahead = v .rest; same = decided true b (v .rest .placed) (v .split) }
 
 -- ---- the list
@@ -112,16 +112,16 @@ module _ (d : Device) (sig img out₀ final : List ℕ) (st : State) (at n : ℕ
     body-here = body (p .kind .size) (gather img (carriers p))
 
     body-long : length body-here ≡ p .kind .size
-    body-long = let s : Placed = O32 d .placedAt (getD sig at 0) p in length-body s img (fits-carriers s (ahead-sized d false sig (length img) st at (w .ahead) h kd e p g))
+    body-long = let s : Placed = O32 d .placedAt (getD sig at 0) (argument st kd) p in length-body s img (fits-carriers s (ahead-sized d false sig (length img) st at (w .ahead) h kd e p g))
 
     -- the whole is what is there, this record, and the rest
-    split-here : (L : List Placed) → w .ahead .placed ≡ O32 d .placedAt (getD sig at 0) p ∷ L → (w .first ++ (getD sig at 0 ∷ body-here)) ++ reading L img ≡ final
+    split-here : (L : List Placed) → w .ahead .placed ≡ O32 d .placedAt (getD sig at 0) (argument st kd) p ∷ L → (w .first ++ (getD sig at 0 ∷ body-here)) ++ reading L img ≡ final
     split-here L b = append-assoc (w .first) (getD sig at 0 ∷ body-here) (reading L img) ∙ ap (λ (M : List Placed). w .first ++ reading M img) (sym b) ∙ w .whole
 
     module _ (room : length final ≤ length out₀) where
       pub copy-room : n + 1 + p .kind .size ≤ length out₀
       copy-room =
-          let v : Behind d false sig (length img) at (w .ahead .placed) p (onward st kd) (at + 1) = next-behind st at (w .ahead) h kd e p g (onward st kd) refl in
+          let v : Behind d false sig (length img) at (w .ahead .placed) (argument st kd) p (onward st kd) (at + 1) = next-behind st at (w .ahead) h kd e p g (onward st kd) refl in
           let l : length ((w .first ++ (getD sig at 0 ∷ body-here)) ++ reading (v .rest .placed) img) ≡ length final = ap length (split-here (v .rest .placed) (v .split)) in
           omega (arith, l, length-append (w .first ++ (getD sig at 0 ∷ body-here)) (reading (v .rest .placed) img), length-append (w .first) (getD sig at 0 ∷ body-here), w .long, body-long)
 
@@ -132,7 +132,7 @@ module _ (d : Device) (sig img out₀ final : List ℕ) (st : State) (at n : ℕ
           → Copying d sig img out₀ final st′ (at + 1) (n + 1 + kd .size) out′
       copy-turn st′ o out′ i =
           let k : ℕ = getD sig at 0 in
-          let v : Behind d false sig (length img) at (w .ahead .placed) p st′ (at + 1) = next-behind st at (w .ahead) h kd e p g st′ o in
+          let v : Behind d false sig (length img) at (w .ahead .placed) (argument st kd) p st′ (at + 1) = next-behind st at (w .ahead) h kd e p g st′ o in
           let z : n + 1 + p .kind .size ≡ n + 1 + kd .size = ap (λ (x : ℕ). n + 1 + x) size-is in
           record {
             ahead = v .rest;
@@ -146,7 +146,7 @@ module _ (d : Device) (sig img out₀ final : List ℕ) (st : State) (at n : ℕ
 
 -- ---- both: q is what the check found, q′ what it is to find
 
-pub keeps : {q q′ : Checked} {p : ℕ} (list out : List ℕ) → q ≡ q′ → q ≡ K.Improper p → (q ≡ q′) × (out ≡ delivered q′ list out)
+pub keeps : {q q′ : Checked} {p j : ℕ} (list out : List ℕ) → q ≡ q′ → q ≡ K.Improper p j → (q ≡ q′) × (out ≡ delivered q′ list out)
 keeps list out e f = (e, ap (λ (x : Checked). delivered x list out) (sym f ∙ e))
 
 pub delivers : {q q′ : Checked} {o : List ℕ} (list out : List ℕ) → q ≡ q′ → q ≡ K.Proper → o ≡ list → (q ≡ q′) × (o ≡ delivered q′ list out)

@@ -9,10 +9,10 @@ ghost use Rattle.o32.specs.O32.{O32};
 ghost use Rattle.reader.specs.Reading.{Readable, delivered, improperIn, readingIn};
 use device::Device;
 
-// Whether all words are proper promotions, or the place of the first kind whose word is not.
+// Whether all words are proper promotions, or the place of the first kind whose word is not, and its argument's number.
 pub enum Checked {
     Proper,
-    Improper(usize),
+    Improper { place: usize, argument: usize },
 }
 
 // Refusal 8: the first kind whose word in the image is no proper promotion.
@@ -26,7 +26,10 @@ fn check(device: Device, signature: &[u8], image: &[u8]) -> Checked
         let kind = kinds::kind_of(signature[at]);
         let here = records::placement_of(device, st, kind);
         if !fetch::is_proper(image, here) {
-            return Checked::Improper(at);
+            return Checked::Improper {
+                place: at,
+                argument: records::argument_of(st, kind),
+            };
         }
         at += 1;
         st = records::state_behind(st, kind, here.offset);

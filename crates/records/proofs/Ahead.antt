@@ -19,9 +19,10 @@ use Rattle.o32.specs.declared.State.{State}
 use Rattle.o32.specs.declared.Placement.{Placement}
 use Rattle.o32.specs.Kinds.{kindOf, is}
 use Rattle.o32.specs.Offsets.{extension, offset}
-use Rattle.o32.specs.O32.{O32, area, carriers, onward, placement, register, start}
+use Rattle.o32.specs.O32.{O32, area, carriers, argument, onward, placement, register, start}
 use Rattle.placement.proofs.KindFacts.{kind-sound}
 use Rattle.placement.proofs.Laws.{O32-laws, up-ge}
+use Rattle.placement.proofs.Bounds.{Grown, Grows, grows}
 use Rattle.placement.proofs.Steps.{ends-within, word-aligned, register-floats}
 use Rattle.records.specs.Records.{Ready}
 use Rattle.records.proofs.Answers.{ready}
@@ -36,10 +37,11 @@ pub record Ahead (d : Device) (bodies : Bool) (list : List ℕ) (m : ℕ) (st : 
   pub ahead : onFrom (O32 d) bodies list at st ≡ good placed last
   pub whole : m ≡ 32 + area (last .end)
   pub fits : st .end ≤ 1024
+  pub few : st .count ≤ 32
 
 abbrev pub ahead-starts : (d : Device) (bodies : Bool) (list : List ℕ) (m : ℕ) (L : List Placed) (last : State) → plan (O32 d) bodies list ≡ good L last → m ≡ 32 + area (last .end)
     → (st : State) → st ≡ start → Ahead d bodies list m st 0
-ahead-starts d bodies list m L last e g st i = record { inside = omega arith; placed = L; last = last; ahead = rw i e; whole = g; fits = rw i (omega arith) }
+ahead-starts d bodies list m L last e g st i = record { inside = omega arith; placed = L; last = last; ahead = rw i e; whole = g; fits = rw i (omega arith); few = rw i (omega arith) }
 
 pub ahead-ends : (d : Device) (bodies : Bool) (list : List ℕ) (m : ℕ) (st : State) (at : ℕ) (w : Ahead d bodies list m st at) → length list ≤ at → w .placed ≡ []
 ahead-ends d bodies list m st at w h =
@@ -51,7 +53,7 @@ data Begun (s : Placed) (q : Plan State) (last : State) : List Placed → Type 0
   begun : (L : List Placed) → q ≡ good L last → Begun s q last (s ∷ L)
 
 also-good : (s : Placed) (q : Plan State) (L : List Placed) (last : State) → also s q ≡ good L last → Begun s q last L
-also-good s (bad r at) L last e = let z : _≡_ {A = ℕ} 0 1 = cc in absurd (omega arith)
+also-good s (bad r at j) L last e = let z : _≡_ {A = ℕ} 0 1 = cc in absurd (omega arith)
 also-good s (good M st) L last e =
     let a : s ∷ M ≡ L = cc in
     let b : st ≡ last = cc in
@@ -73,13 +75,16 @@ fits-image {d = d} st k m w h =
     }
 
 -- the records behind one that is placed so
-pub record Behind (d : Device) (bodies : Bool) (list : List ℕ) (m at : ℕ) (placed : List Placed) (p : Placement) (st′ : State) (at′ : ℕ) : Type 0 where
+pub record Behind (d : Device) (bodies : Bool) (list : List ℕ) (m at : ℕ) (placed : List Placed) (j : ℕ) (p : Placement) (st′ : State) (at′ : ℕ) : Type 0 where
   pub rest : Ahead d bodies list m st′ at′
-  pub split : placed ≡ O32 d .placedAt (getD list at 0) p ∷ rest .placed
+  pub split : placed ≡ O32 d .placedAt (getD list at 0) j p ∷ rest .placed
 
 module _ (d : Device) (bodies : Bool) (list : List ℕ) (m : ℕ) (st : State) (at : ℕ) (w : Ahead d bodies list m st at) (h : at < length list) where
   abbrev k : ℕ
   k = getD list at 0
+
+  abbrev j₀ : ℕ
+  j₀ = argument st (kindOf k)
 
   abbrev p₀ : Placement
   p₀ = placement d st (kindOf k)
@@ -95,29 +100,32 @@ module _ (d : Device) (bodies : Bool) (list : List ℕ) (m : ℕ) (st : State) (
   here = go (taken (O32 d) bodies (length list - (at + 1)) st k) refl
     where
       go : (s : Step Placement State) → taken (O32 d) bodies (length list - (at + 1)) st k ≡ s → Placing d bodies (length list - (at + 1)) st k
-      go (refuse r) e =
-          let z : bad r at ≡ good (w .placed) (w .last) = sym (stopped (O32 d) bodies list at st h r e) ∙ w .ahead in
+      go (refuse r j) e =
+          let z : bad r at j ≡ good (w .placed) (w .last) = sym (stopped (O32 d) bodies list at st h r j e) ∙ w .ahead in
           let y : _≡_ {A = ℕ} 0 1 = cc in
           absurd (omega arith)
-      go (next p st′) e = placing d bodies st k (length list - (at + 1)) p st′ e
+      go (next j p st′) e = placing d bodies st k (length list - (at + 1)) j p st′ e
 
   inside-it : at₀ ≤ length list
-  inside-it = within (O32 d) bodies list at st h p₀ st₀ (here .whole)
+  inside-it = within (O32 d) bodies list at st h j₀ p₀ st₀ (here .whole)
 
-  parts : Begun (O32 d .placedAt k p₀) (onFrom (O32 d) bodies list at₀ st₀) (w .last) (w .placed)
-  parts = also-good (O32 d .placedAt k p₀) (onFrom (O32 d) bodies list at₀ st₀) (w .placed) (w .last) (sym (passed (O32 d) bodies list at st h p₀ st₀ (here .whole)) ∙ w .ahead)
+  parts : Begun (O32 d .placedAt k j₀ p₀) (onFrom (O32 d) bodies list at₀ st₀) (w .last) (w .placed)
+  parts = also-good (O32 d .placedAt k j₀ p₀) (onFrom (O32 d) bodies list at₀ st₀) (w .placed) (w .last) (sym (passed (O32 d) bodies list at st h j₀ p₀ st₀ (here .whole)) ∙ w .ahead)
 
-  grows : (L : List Placed) → Begun (O32 d .placedAt k p₀) (onFrom (O32 d) bodies list at₀ st₀) (w .last) L → 32 + area (st₀ .end) ≤ m
-  grows _ (begun M f) =
+  room-for : (L : List Placed) → Begun (O32 d .placedAt k j₀ p₀) (onFrom (O32 d) bodies list at₀ st₀) (w .last) L → 32 + area (st₀ .end) ≤ m
+  room-for _ (begun M f) =
       let v : Walked (O32 d) (O32-laws d) bodies 0 (drop at₀ list) st₀ M (w .last) = walked (O32 d) (O32-laws d) bodies (drop at₀ list) at₀ 0 st₀ M (w .last) f in
       omega (arith, w .whole, walk-grows (O32 d) (O32-laws d) (v .walk))
 
-  behind-it : Behind d bodies list m at (w .placed) p₀ st₀ at₀
+  grown : Grown st (kindOf k) j₀ p₀ st₀
+  grown = subst (Grows st (kindOf k)) (here .step) (grows d st (kindOf k) (kind-sound k))
+
+  behind-it : Behind d bodies list m at (w .placed) j₀ p₀ st₀ at₀
   behind-it = go (w .placed) parts refl
     where
-      go : (L : List Placed) → Begun (O32 d .placedAt k p₀) (onFrom (O32 d) bodies list at₀ st₀) (w .last) L → w .placed ≡ L → Behind d bodies list m at (w .placed) p₀ st₀ at₀
+      go : (L : List Placed) → Begun (O32 d .placedAt k j₀ p₀) (onFrom (O32 d) bodies list at₀ st₀) (w .last) L → w .placed ≡ L → Behind d bodies list m at (w .placed) j₀ p₀ st₀ at₀
       go _ (begun M f) q = record {
-        rest = record { inside = inside-it; placed = M; last = w .last; ahead = f; whole = w .whole; fits = here .fits };
+        rest = record { inside = inside-it; placed = M; last = w .last; ahead = f; whole = w .whole; fits = here .fits; few = grown .few (w .few) };
         split = q;
       }
 
@@ -135,10 +143,10 @@ module _ (d : Device) (bodies : Bool) (list : List ℕ) (m : ℕ) (st : State) (
       ahead-sized = rw (g, e) (subst (StepLawful (O32 d) (O32-laws d .Free) st k) (here .step) (O32-laws d .steps st k) .sized)
 
       pub ahead-fit : (room : ℕ) → m ≤ room → Fit p room
-      ahead-fit room l = rw (g, e) (fits-image st k room here (omega (arith, grows (w .placed) parts)))
+      ahead-fit room l = rw (g, e) (fits-image st k room here (omega (arith, room-for (w .placed) parts)))
 
       pub ahead-placed : Ready st kd × (p .offset ≡ offset kd (st .end))
       ahead-placed = (ahead-ready, rw g refl)
 
-      pub ahead-turn : (st′ : State) → st′ ≡ onward st kd → (at′ : ℕ) → at′ ≡ at + 1 + behind bodies (kd .size) → Behind d bodies list m at (w .placed) p st′ at′
+      pub ahead-turn : (st′ : State) → st′ ≡ onward st kd → (at′ : ℕ) → at′ ≡ at + 1 + behind bodies (kd .size) → Behind d bodies list m at (w .placed) (argument st kd) p st′ at′
       ahead-turn st′ o at′ i = rw (i, o, g, e) behind-it

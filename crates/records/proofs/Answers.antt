@@ -19,7 +19,7 @@ use Rattle.records.specs.declared.Record.the-variants as R
 use Rattle.o32.specs.Kinds.{kindOf, is}
 use Rattle.words.specs.Words.{up}
 use Rattle.o32.specs.Offsets.{offset, width}
-use Rattle.o32.specs.O32.{O32, floatRegister, register, misplaced, full, onward, placement, stepped}
+use Rattle.o32.specs.O32.{O32, floatRegister, register, misplaced, full, argument, onward, placement, stepped}
 use Rattle.records.specs.Records.{Alignment, recordOf, Ready}
 use Rattle.placement.proofs.KindFacts.{kind-sound}
 use Rattle.kinds.proofs.Classes.{class-is}
@@ -96,6 +96,16 @@ module _ (st : State) (k : Kind) where
   pub argument-fits : (u : Bool) → u ≡ is Marker k → u ≡ false → leb 32 (st .count) ≡ full st k
   argument-fits u f g = rw (sym f ∙ g)
 
+  -- the argument's number
+  pub unknown-number : (t : Bool) → t ≡ is Unknown k → t ≡ true → 0 ≡ argument st k
+  unknown-number t e h = rw (sym e ∙ h)
+
+  pub marker-number : (u : Bool) → u ≡ is Marker k → u ≡ true → 0 ≡ argument st k
+  marker-number u e h = rw (class-is Marker k u e h)
+
+  pub own-number : (t u : Bool) → t ≡ is Unknown k → t ≡ false → u ≡ is Marker k → u ≡ false → st .count + 1 ≡ argument st k
+  own-number t u e h f g = rw (sym e ∙ h, sym f ∙ g)
+
   -- the state behind
   pub behind-marker : (u : Bool) → u ≡ is Marker k → u ≡ true
       → record { end = st .end; count = st .count; pointer = st .pointer; floating = st .floating; marked = true } ≡ onward st k
@@ -111,7 +121,7 @@ module _ (st : State) (k : Kind) where
 
 -- ---- the record step: the tests that a record has passed, and the answer where one fails
 
-module _ (st : State) (k : ℕ) (bodies : Bool) (left : ℕ) (kd : Kind) (e : kd ≡ kindOf k) where
+module _ (st : State) (k : ℕ) (bodies : Bool) (left : ℕ) (kd : Kind) (e : kd ≡ kindOf k) (j : ℕ) (counted : j ≡ argument st kd) where
   abbrev Given : Record → Type 0
   Given r = (d : Device) → r ≡ recordOf (taken (O32 d) bodies left st k)
 
@@ -119,30 +129,30 @@ module _ (st : State) (k : ℕ) (bodies : Bool) (left : ℕ) (kd : Kind) (e : kd
   answer r h d = h d ∙ ap (λ (x : Kind). recordOf (limited (O32 d) bodies left k (stepped d st x))) e
 
   module _ (u : Bool) (known : u ≡ is Unknown kd) where
-    pub refused-1 : u ≡ true → Given (R.Refused 1)
-    refused-1 h = answer (R.Refused 1) (λ d. rw (sym known ∙ h))
+    pub refused-1 : u ≡ true → Given (R.Refused 1 j)
+    refused-1 h = answer (R.Refused 1 j) (λ d. rw (counted, sym known ∙ h))
 
     module _ (h₁ : u ≡ false) (m : Bool) (placed : m ≡ misplaced st kd) where
-      pub refused-2 : m ≡ true → Given (R.Refused 2)
-      refused-2 h = answer (R.Refused 2) (λ d. rw (sym known ∙ h₁, sym placed ∙ h))
+      pub refused-2 : m ≡ true → Given (R.Refused 2 j)
+      refused-2 h = answer (R.Refused 2 j) (λ d. rw (counted, sym known ∙ h₁, sym placed ∙ h))
 
       module _ (h₂ : m ≡ false) (f : Bool) (roomy : f ≡ full st kd) where
-        pub refused-3 : f ≡ true → Given (R.Refused 3)
-        refused-3 h = answer (R.Refused 3) (λ d. rw (sym known ∙ h₁, sym placed ∙ h₂, sym roomy ∙ h))
+        pub refused-3 : f ≡ true → Given (R.Refused 3 j)
+        refused-3 h = answer (R.Refused 3 j) (λ d. rw (counted, sym known ∙ h₁, sym placed ∙ h₂, sym roomy ∙ h))
 
         module _ (h₃ : f ≡ false) (b : ℕ) (needed : b ≡ behind bodies (kd .size)) where
-          pub refused-4 : left < b → Given (R.Refused 4)
-          refused-4 h = answer (R.Refused 4) (λ d. rw (sym known ∙ h₁, sym placed ∙ h₂, sym roomy ∙ h₃, lt-ltb left (behind bodies (kd .size)) (rw needed at h)))
+          pub refused-4 : left < b → Given (R.Refused 4 j)
+          refused-4 h = answer (R.Refused 4 j) (λ d. rw (counted, sym known ∙ h₁, sym placed ∙ h₂, sym roomy ∙ h₃, lt-ltb left (behind bodies (kd .size)) (rw needed at h)))
 
           module _ (h₄ : b ≤ left) (n : State) (on : n ≡ onward st kd) where
-            limit : (r : Record) → ((d : Device) → r ≡ recordOf (cond (leb (onward st kd .end) 1024) (next (placement d st kd) (onward st kd)) (refuse 5))) → Given r
+            limit : (r : Record) → ((d : Device) → r ≡ recordOf (cond (leb (onward st kd .end) 1024) (next (argument st kd) (placement d st kd) (onward st kd)) (refuse 5 (argument st kd)))) → Given r
             limit r h = answer r (λ d. h d ∙ sym (rw (sym known ∙ h₁, sym placed ∙ h₂, sym roomy ∙ h₃, le-ltb left (behind bodies (kd .size)) (rw needed at h₄))))
 
-            pub refused-5 : 1024 < n .end → Given (R.Refused 5)
-            refused-5 h = limit (R.Refused 5) (λ d. rw (lt-leb (onward st kd .end) 1024 (rw on at h)))
+            pub refused-5 : 1024 < n .end → Given (R.Refused 5 j)
+            refused-5 h = limit (R.Refused 5 j) (λ d. rw (counted, lt-leb (onward st kd .end) 1024 (rw on at h)))
 
-            pub accepted : n .end ≤ 1024 → Given (R.Taken kd n)
-            accepted h = limit _ (λ d. rw on (rw (le-leb (onward st kd .end) 1024 (rw on at h))))
+            pub accepted : n .end ≤ 1024 → Given (R.Taken j kd n)
+            accepted h = limit _ (λ d. rw (counted, on) (rw (le-leb (onward st kd .end) 1024 (rw on at h))))
 
 -- a kind of the table can be placed behind arguments in their limits
 pub ready : (st : State) (k : ℕ) (kd : Kind) → kd ≡ kindOf k → full st kd ≡ false → st .end ≤ 1024 → Ready st kd

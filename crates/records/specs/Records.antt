@@ -17,10 +17,10 @@ use Rattle.records.specs.declared.Record.the-variants as R
 abbrev pub Alignment : ℕ → Type 0
 Alignment a = (a ≡ 0) ⊎ (a ≡ 4) ⊎ (a ≡ 8)
 
--- The answer of one record: its refusal, or its kind and the state behind it.
+-- The answer of one record: its refusal, or its kind and the state behind it; and its argument's number.
 abbrev pub recordOf : Step Placement State → Record
-recordOf (refuse r) = R.Refused r
-recordOf (next p st) = R.Taken (p .kind) st
+recordOf (refuse r n) = R.Refused r n
+recordOf (next n p st) = R.Taken n (p .kind) st
 
 -- A record that can be placed: its kind is of the table, and the arguments before it are in their limits.
 pub record Ready (st : State) (k : Kind) : Type 0 where

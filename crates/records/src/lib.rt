@@ -7,7 +7,7 @@ ghost use Rattle.device.specs.declared.Device.{Device};
 ghost use Rattle.carried.specs.Convention.{behind, taken};
 ghost use Rattle.o32.specs.declared.Class.the-variants.{Float, Pointer};
 ghost use Rattle.o32.specs.Kinds.{is};
-ghost use Rattle.o32.specs.O32.{O32, floatRegister, full, misplaced, onward, placement, register, start};
+ghost use Rattle.o32.specs.O32.{O32, argument, floatRegister, full, misplaced, onward, placement, register, start};
 ghost use Rattle.words.specs.Words.{up};
 ghost use Rattle.o32.specs.Offsets.{offset};
 ghost use Rattle.records.specs.Records.{Alignment, Ready, recordOf};
@@ -17,10 +17,11 @@ use o32::Kind;
 use o32::Placement;
 use o32::State;
 
-// What one record answers: a refusal's number, or its kind and the state behind it.
+// What one record answers: a refusal's number, and the number of the argument that the record is or would be, from 1, or 0 where
+// it is none; or this argument's number, the record's kind and the state behind it.
 pub enum Record {
-    Refused(u32),
-    Taken { kind: Kind, next: State },
+    Refused(u32, usize),
+    Taken(usize, Kind, State),
 }
 
 // The next multiple of an alignment of 4 or 8 from n on; 0 where there is no alignment.
@@ -92,6 +93,20 @@ fn is_full(st: State, kind: Kind) -> bool
         return false;
     }
     32 <= st.count
+}
+
+// The number of the argument that a record is or would be, from 1. A marker and an unknown kind are none.
+pub fn argument_of(st: State, kind: Kind) -> usize
+    requires { ⌜ st .count ≤ 32 ⌝ }
+    ensures { λ r. ⌜ r ≡ argument st kind ⌝ }
+{
+    if kinds::is_class(Class::Unknown, kind) {
+        return 0;
+    }
+    if kinds::is_class(Class::Marker, kind) {
+        return 0; // not counted
+    }
+    st.count + 1
 }
 
 // Whether the first argument is a return pointer, once this argument is added.
@@ -179,27 +194,28 @@ pub fn state_behind(st: State, kind: Kind, o: usize) -> State
 }
 
 // One record of a list (bodies) or of a signature, with so many bytes left behind its kind byte: refusals 1 to 5 in their
-// order, or its kind and the state behind it, on every device.
+// order, or its kind and the state behind it, with its argument's number, on every device.
 pub fn take(st: State, byte: u8, bodies: bool, left: usize) -> Record
-    requires { ⌜ st .end ≤ 1024 ⌝ }
+    requires { ⌜ (st .end ≤ 1024) × (st .count ≤ 32) ⌝ }
     ensures { λ r. ⌜ ((d : Device) → r ≡ recordOf (taken (O32 d) bodies left st byte)) ⌝ }
 {
     let kind = kinds::kind_of(byte);
+    let argument = argument_of(st, kind);
     if kinds::is_class(Class::Unknown, kind) {
-        return Record::Refused(1);
+        return Record::Refused(1, argument);
     }
     if is_misplaced(st, kind) {
-        return Record::Refused(2);
+        return Record::Refused(2, argument);
     }
     if is_full(st, kind) {
-        return Record::Refused(3);
+        return Record::Refused(3, argument);
     }
     if left < body_behind(bodies, kind.size) {
-        return Record::Refused(4);
+        return Record::Refused(4, argument);
     }
     let next = state_behind(st, kind, offset_of(st, kind));
     if 1024 < next.end {
-        return Record::Refused(5);
+        return Record::Refused(5, argument);
     }
-    Record::Taken { kind, next }
+    Record::Taken(argument, kind, next)
 }

@@ -1,12 +1,10 @@
 -- The fewest digits that hold a number are its decimal.
 -- Assumes nothing.
-use mathlib.Core.Path.{_≡_, refl}
-use mathlib.Core.List.{[], _∷_}
+use mathlib.Core.Path.{_≡_}
 use Prim.Native.Nat.{ℕ, zero, suc, _+_, _-_, _*_, _/_, _%_, _^_, _≤_, _<_}
 use native.Mathlib.Omega.{arith}
 use native.Mathlib.Nat.{pow-suc, pow-le-pow-right, lt-of-not-le, le-of-suc-le-suc}
 use native.Mathlib.Numerals.{sub-one}
-use lib.ListN.{length, length-append}
 use borrow.Author.Tests.{lt-ltb, le-ltb}
 use Rattle.io.specs.Digits.{Fewest, glyph}
 use Rattle.io.specs.Digits as D
@@ -41,11 +39,6 @@ pub decimal-is : (n k : ℕ) → Fewest 10 1 n k → D.digits 10 k n ≡ decimal
 unfolding decimal
 decimal-is n zero h = absurd (omega arith)
 decimal-is n (suc r) h = fewest r (suc n) n (h .1) (λ p. rw sub-one at (h .2 (omega arith))) (omega arith)
-
--- There are as many digits as were asked for.
-pub digits-length : (k n : ℕ) → length (D.digits 10 k n) ≡ k
-digits-length zero n = refl
-digits-length (suc k) n = omega (arith, length-append (D.digits 10 k (n / 10)) (glyph (n % 10) ∷ []), digits-length k (n / 10))
 
 -- A number of 64 bits has at most 20 digits: 21 digits start at 10 ^ 20.
 pub twenty : (n k : ℕ) → n < 2 ^ 64 → Fewest 10 1 n k → k ≤ 20

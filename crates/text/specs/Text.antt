@@ -44,9 +44,14 @@ refused = 114 ∷ 101 ∷ 102 ∷ 117 ∷ 115 ∷ 101 ∷ 100 ∷ 32 ∷ []
 abbrev pub at : List ℕ
 at = 32 ∷ 97 ∷ 116 ∷ 32 ∷ []
 
--- "refused N at P" and a newline.
-abbrev pub refusalText : ℕ → ℕ → List ℕ
-refusalText number place = refused ++ decimal number ++ at ++ decimal place ++ (10 ∷ [])
+-- " argument "
+abbrev pub argumentWord : List ℕ
+argumentWord = 32 ∷ 97 ∷ 114 ∷ 103 ∷ 117 ∷ 109 ∷ 101 ∷ 110 ∷ 116 ∷ 32 ∷ []
+
+-- "refused N at P argument K" and a newline.
+abbrev pub refusalText : ℕ → ℕ → ℕ → List ℕ
+refusalText number place argument =
+    refused ++ decimal number ++ at ++ decimal place ++ argumentWord ++ decimal argument ++ (10 ∷ [])
 
 -- The length of a text in a buffer of so many bytes: 0 where it does not fit.
 abbrev pub answered : List ℕ → ℕ → ℕ

@@ -1,9 +1,10 @@
 // Text for standard output: hex digits, the words of an image, and the line of a refusal.
+ghost use mathlib.Core.List.{_++_};
 ghost use mathlib.Core.Path.{_≡_};
 ghost use Prim.Native.Nat.{_%_, _+_, _/_, _<_, _≤_};
-ghost use lib.ListN.{length};
+ghost use lib.ListN.{length, take};
 ghost use lib.Seq.{paste};
-ghost use Rattle.text.specs.Text.{answered, hexDigit, imageText, lineAt, refusalText, stored};
+ghost use Rattle.text.specs.Text.{answered, decimal, hexDigit, imageText, lineAt, refusalText, stored};
 
 // A digit below 16 as a character: 0 to 9, then A to F.
 fn hex_digit(d: u8) -> u8
@@ -81,21 +82,31 @@ pub fn image_text(image: &[u8], out: &mut [u8]) -> usize
     9 * words
 }
 
-// "refused N at P" and a newline, at the start of a buffer; its length, or 0 where the buffer is too short.
-pub fn refusal_text(number: u32, place: usize, out: &mut [u8]) -> usize
-    ensures { λ r. ⌜ r ≡ answered (refusalText number place) (length (now (out .entry))) ⌝ }
-    ensures { λ _. ⌜ now (out .exit) ≡ stored (refusalText number place) (now (out .entry)) ⌝ }
+// A text and behind it a number in decimal, of at most 20 digits, into a buffer from a place on; the place behind them.
+fn put_number(text: &[u8], number: u64, out: &mut [u8], at: usize) -> usize
+    requires { ⌜ at + length (now text) + 20 ≤ length (now out) ⌝ }
+    ensures { λ r. ⌜ r ≤ at + length (now (text .entry)) + 20 ⌝ }
+    ensures { λ r. ⌜ take r (now (out .exit)) ≡ take at (now (out .entry)) ++ now (text .entry) ++ decimal number ⌝ }
 {
-    let mut first = [0u8; 20];
-    let mut second = [0u8; 20];
-    let n = io::decimal(number as u64, &mut first);
-    let p = io::decimal(place as u64, &mut second);
-    if out.len() < 13 + n + p {
+    let mut digits = [0u8; 20];
+    let n = io::decimal(number, &mut digits);
+    let behind = put(text, out, at);
+    put(&digits[..n], out, behind)
+}
+
+// "refused N at P argument K" and a newline, at the start of a buffer; its length, or 0 where the buffer is too short.
+pub fn refusal_text(number: u32, place: usize, argument: usize, out: &mut [u8]) -> usize
+    ensures { λ r. ⌜ r ≡ answered (refusalText number place argument) (length (now (out .entry))) ⌝ }
+    ensures { λ _. ⌜ now (out .exit) ≡ stored (refusalText number place argument) (now (out .entry)) ⌝ }
+{
+    // The line is made apart, since a buffer that is too short stays as it was: 23 bytes and three numbers of at most 20 digits.
+    let mut line = [0u8; 83];
+    let behind_number = put_number(b"refused ", number as u64, &mut line, 0);
+    let behind_place = put_number(b" at ", place as u64, &mut line, behind_number);
+    let behind_argument = put_number(b" argument ", argument as u64, &mut line, behind_place);
+    let n = put(b"\n", &mut line, behind_argument);
+    if out.len() < n {
         return 0;
     }
-    let behind_word = put(b"refused ", out, 0);
-    let behind_number = put(&first[..n], out, behind_word);
-    let behind_at = put(b" at ", out, behind_number);
-    let behind_place = put(&second[..p], out, behind_at);
-    put(b"\n", out, behind_place)
+    put(&line[..n], out, 0)
 }

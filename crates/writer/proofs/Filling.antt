@@ -18,7 +18,7 @@ use Rattle.o32.specs.declared.State.{State}
 use Rattle.o32.specs.declared.Placement.{Placement}
 use Rattle.o32.specs.Kinds.{kindOf}
 use Rattle.o32.specs.Offsets.{extension}
-use Rattle.o32.specs.O32.{O32, carriers, onward, placement, start}
+use Rattle.o32.specs.O32.{O32, carriers, argument, onward, placement, start}
 use Rattle.placement.proofs.Bounds.{plan-bound}
 use Rattle.records.proofs.Ahead.{Ahead, ahead-starts, ahead-ends, ahead-within, ahead-sized, Behind, ahead-turn}
 use Rattle.writer.specs.Filling.{Fillable, filled}
@@ -57,14 +57,14 @@ module _ (d : Device) (list : List ℕ) (n : ℕ) (final : List ℕ) (st : State
     fill-turn st′ img′ o i =
         let k : ℕ = getD list at 0 in
         let z : p .kind .size ≡ kd .size = ap (λ (x : Placement). x .kind .size) g in
-        let v : Behind d true list n at (w .ahead .placed) p st′ (at + 1 + kd .size) = ahead-turn d true list n st at (w .ahead) h kd e p g st′ o (at + 1 + kd .size) refl in
+        let v : Behind d true list n at (w .ahead .placed) (argument st kd) p st′ (at + 1 + kd .size) = ahead-turn d true list n st at (w .ahead) h kd e p g st′ o (at + 1 + kd .size) refl in
         let M : List Placed = v .rest .placed in
         let b : List ℕ = take (p .kind .size) (drop (at + 1) list) in
         let vs : List ℕ = promote (extension (p .kind)) b in
         let more : List ℕ = promotedBytes M (drop (at + 1 + kd .size) list) in
         let long : length b ≡ p .kind .size = length-take-le (p .kind .size) (drop (at + 1) list) (rw length-drop (omega (arith, fill-body))) in
-        let q : promotedBytes (O32 d .placedAt k p ∷ M) (drop at list) ≡ vs ++ more =
-        ap (promotedBytes (O32 d .placedAt k p ∷ M)) (drop-cons list at 0 h) ∙ (rw (drop-drop, ← (add-one at))) ∙ ap (λ (x : ℕ). vs ++ promotedBytes M (drop (at + 1 + x) list)) z in
+        let q : promotedBytes (O32 d .placedAt k (argument st kd) p ∷ M) (drop at list) ≡ vs ++ more =
+        ap (promotedBytes (O32 d .placedAt k (argument st kd) p ∷ M)) (drop-cons list at 0 h) ∙ (rw (drop-drop, ← (add-one at))) ∙ ap (λ (x : ℕ). vs ++ promotedBytes M (drop (at + 1 + x) list)) z in
         record {
           ahead = v .rest;
           rest =

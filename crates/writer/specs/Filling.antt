@@ -18,10 +18,10 @@ pub record Fillable (d : Device) (list : List ℕ) (n : ℕ) : Type 0 where
 
 -- An image with the bytes of a list's arguments stored at their places.
 abbrev pub filled : Plan State → List ℕ → List ℕ → List ℕ
-filled (bad r at) list img = img
+filled (bad r at n) list img = img
 filled (good L st) list img = put img (carried L) (promotedBytes L list)
 
 -- The image of a list, so many bytes long.
 abbrev pub imageIn : Plan State → List ℕ → ℕ → List ℕ
-imageIn (bad r at) list n = []
+imageIn (bad r at k) list n = []
 imageIn (good L st) list n = image n L list

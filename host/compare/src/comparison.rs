@@ -303,11 +303,13 @@ fn answer_of(answer: o32::Answer) -> Answer {
     let o32::Answer {
         refusal,
         place,
+        argument,
         length,
     } = answer;
     Answer {
         refusal,
         place,
+        argument,
         length,
     }
 }
@@ -350,8 +352,8 @@ fn success(length: usize) -> Answer {
 
 fn answer_text(answer: &Answer) -> String {
     format!(
-        "refusal {}, place {}, length {}",
-        answer.refusal, answer.place, answer.length
+        "refusal {}, place {}, argument {}, length {}",
+        answer.refusal, answer.place, answer.argument, answer.length
     )
 }
 

@@ -68,10 +68,9 @@ fn read_image(
 
 /// Refuses a word of a byte or halfword that promotion can't have made.
 fn check_promotion(record: &Record, image: &[u8]) -> Result<(), Refusal> {
+    let refusal = Refusal::at(Refusal::NO_PROMOTION, record.place, record.argument);
     match record.kind {
-        Kind::Short(promotion) if !is_proper(promotion, word_of(record, image)) => {
-            Err(Refusal::at(Refusal::NO_PROMOTION, record.place))
-        }
+        Kind::Short(promotion) if !is_proper(promotion, word_of(record, image)) => Err(refusal),
         _ => Ok(()),
     }
 }

@@ -31,6 +31,8 @@ pub struct Answer {
     pub refusal: u32,
     /// Offset of the refused kind byte, 0 where the refusal has no place.
     pub place: u32,
+    /// Number of the refused argument, from 1; 0 where the refusal has none.
+    pub argument: u32,
     /// Bytes written, 0 on a refusal.
     pub length: u32,
 }
@@ -42,21 +44,23 @@ impl Answer {
                 length: length as u32,
                 ..Answer::default()
             },
-            Err(Refusal { number, place }) => Answer {
-                refusal: number,
+            Err(refusal) => Answer {
+                refusal: refusal.number,
                 // No list gets further than its limits, some 1,600 bytes.
-                place: place as u32,
+                place: refusal.place as u32,
+                argument: refusal.argument,
                 length: 0,
             },
         }
     }
 }
 
-/// Why an operation refuses, and where.
+/// Why an operation refuses, where, and at which argument.
 #[derive(Clone, Copy, Debug, PartialEq, Eq)]
 pub(crate) struct Refusal {
     number: u32,
     place: usize,
+    argument: u32,
 }
 
 impl Refusal {
@@ -75,12 +79,16 @@ impl Refusal {
     pub(crate) const SHORT_CODE: u32 = 13;
     pub(crate) const PAIRS_WITHOUT_UNIT: u32 = 14;
 
-    pub(crate) fn at(number: u32, place: usize) -> Self {
-        Refusal { number, place }
+    pub(crate) fn at(number: u32, place: usize, argument: u32) -> Self {
+        Refusal {
+            number,
+            place,
+            argument,
+        }
     }
 
     pub(crate) fn nowhere(number: u32) -> Self {
-        Refusal { number, place: 0 }
+        Refusal::at(number, 0, 0)
     }
 }
 

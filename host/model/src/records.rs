@@ -22,6 +22,8 @@ enum Form {
 pub(crate) struct Record {
     /// Offset of the kind byte.
     pub(crate) place: usize,
+    /// Number of the argument, from 1; 0 for the marker.
+    pub(crate) argument: u32,
     pub(crate) kind: Kind,
     /// Of no account for the marker, which is no argument.
     pub(crate) placement: Placement,
@@ -56,6 +58,7 @@ impl Plan {
     fn empty() -> Plan {
         let unused = Record {
             place: 0,
+            argument: 0,
             kind: Kind::Marker,
             placement: Placement::default(),
         };
@@ -87,10 +90,7 @@ impl Plan {
         let mut next = 0;
         while let Some(&byte) = bytes.get(next) {
             let room = bytes.len() - next - 1;
-            let place = next;
-            let kind = self
-                .take(device, byte, place, form, room)
-                .map_err(|number| Refusal::at(number, place))?;
+            let kind = self.take(device, byte, next, form, room)?;
             next += match form {
                 Form::List => 1 + kind.body(),
                 Form::Signature => 1,
@@ -99,8 +99,7 @@ impl Plan {
         Ok(())
     }
 
-    /// Takes the record of a kind byte with `room` bytes behind it, or gives
-    /// the refusal's number.
+    /// Takes the record of a kind byte with `room` bytes behind it.
     fn take(
         &mut self,
         device: Device,
@@ -108,33 +107,48 @@ impl Plan {
         place: usize,
         form: Form,
         room: usize,
-    ) -> Result<Kind, u32> {
-        let kind = Kind::of(byte).ok_or(Refusal::UNKNOWN_KIND)?;
+    ) -> Result<Kind, Refusal> {
+        let kind = Kind::of(byte).ok_or(Refusal::at(Refusal::UNKNOWN_KIND, place, 0))?;
+        let argument = self.argument_number(kind);
+        let refused = |number| Refusal::at(number, place, argument);
         if !self.may_stand_here(kind) {
-            return Err(Refusal::MISPLACED);
+            return Err(refused(Refusal::MISPLACED));
         }
         if kind != Kind::Marker && self.area.arguments() == ARGUMENT_LIMIT {
-            return Err(Refusal::TOO_MANY_ARGUMENTS);
+            return Err(refused(Refusal::TOO_MANY_ARGUMENTS));
         }
         if form == Form::List && room < kind.body() {
-            return Err(Refusal::CUT_OFF);
+            return Err(refused(Refusal::CUT_OFF));
         }
         let placement = match kind {
             Kind::Marker => {
                 self.area.pass_marker();
                 Placement::default()
             }
-            _ => self.area.place(device, kind).ok_or(Refusal::BEYOND_LIMIT)?,
+            _ => self
+                .area
+                .place(device, kind)
+                .ok_or(refused(Refusal::BEYOND_LIMIT))?,
         };
 
         self.has_return_pointer |= kind == Kind::ReturnPointer;
         self.records[self.count] = Record {
             place,
+            argument,
             kind,
             placement,
         };
         self.count += 1;
         Ok(kind)
+    }
+
+    /// The number of the argument that a record here is or would be, whether or
+    /// not it is refused; 0 for the marker, which is none.
+    fn argument_number(&self, kind: Kind) -> u32 {
+        match kind {
+            Kind::Marker => 0,
+            _ => self.area.arguments() as u32 + 1,
+        }
     }
 
     /// The marker stands once, behind an argument that is no return pointer; a

@@ -53,14 +53,16 @@ fn success(length: usize) -> Answer {
     Answer {
         refusal: 0,
         place: 0,
+        argument: 0,
         length: length as u32,
     }
 }
 
-fn refused(refusal: u32, place: u32) -> Answer {
+fn refused(refusal: u32, place: u32, argument: u32) -> Answer {
     Answer {
         refusal,
         place,
+        argument,
         length: 0,
     }
 }
@@ -69,8 +71,9 @@ fn refused(refusal: u32, place: u32) -> Answer {
 fn written(device: Device, list: &[u8]) -> Vec<u8> {
     let mut buffer = [0xA5; 1100];
     let answer = write(device, list, &mut buffer);
-    assert_eq!((answer.refusal, answer.place), (0, 0), "list {list:02X?}");
-    let (image, beyond) = buffer.split_at(answer.length as usize);
+    let length = answer.length as usize;
+    assert_eq!(answer, success(length), "list {list:02X?}");
+    let (image, beyond) = buffer.split_at(length);
     assert!(beyond.iter().all(|&byte| byte == 0xA5));
     image.to_vec()
 }
@@ -78,8 +81,9 @@ fn written(device: Device, list: &[u8]) -> Vec<u8> {
 fn read_back(device: Device, signature: &[u8], image: &[u8]) -> Vec<u8> {
     let mut buffer = [0xA5; 1100];
     let answer = read(device, signature, image, &mut buffer);
-    assert_eq!((answer.refusal, answer.place), (0, 0));
-    let (list, beyond) = buffer.split_at(answer.length as usize);
+    let length = answer.length as usize;
+    assert_eq!(answer, success(length));
+    let (list, beyond) = buffer.split_at(length);
     assert!(beyond.iter().all(|&byte| byte == 0xA5));
     list.to_vec()
 }
@@ -420,10 +424,12 @@ fn the_last_argument_may_end_at_1024() {
     // A marker behind it is no argument and takes no room.
     assert_eq!(written(Fpu, &[&list[..], &[0x0A]].concat()).len(), 1056);
     list.extend(hex(WORD));
-    assert_eq!(write_refusal(&list), refused(5, 1026));
-    assert_eq!(read_refusal(&[0xFF, 0xFF, 0x05], &[], 0), refused(5, 2));
+    assert_eq!(write_refusal(&list), refused(5, 1026, 3));
+    assert_eq!(read_refusal(&[0xFF, 0xFF, 0x05], &[], 0), refused(5, 2, 3));
     // A body that is cut off comes before the limit, where there are bodies.
-    assert_eq!(write_refusal(&list[..1028]), refused(4, 1026));
+    assert_eq!(write_refusal(&list[..1028]), refused(4, 1026, 3));
+    // A return pointer counts.
+    assert_eq!(read_refusal(&[0x0B, 0xFF, 0xFF], &[], 0), refused(5, 2, 3));
 }
 
 #[test]
@@ -432,44 +438,119 @@ fn thirty_two_arguments_are_enough() {
     assert_eq!(written(Fpu, &list).len(), 32 + 128);
     assert_eq!(written(Fpu, &[&list[..], &[0x0A]].concat()).len(), 32 + 128);
     let two_markers = [&list[..], &[0x0A, 0x0A]].concat();
-    assert_eq!(write_refusal(&two_markers), refused(2, 161));
+    assert_eq!(write_refusal(&two_markers), refused(2, 161, 0));
+    assert_eq!(write_refusal(&list[..159]), refused(4, 155, 32));
     list.extend(hex(WORD));
-    assert_eq!(write_refusal(&list), refused(3, 160));
+    assert_eq!(write_refusal(&list), refused(3, 160, 33));
     // The thirty-third needs no body to be refused, nor the right place.
-    assert_eq!(write_refusal(&list[..161]), refused(3, 160));
+    assert_eq!(write_refusal(&list[..161]), refused(3, 160, 33));
     list[160] = 0x0B;
-    assert_eq!(write_refusal(&list), refused(2, 160));
+    assert_eq!(write_refusal(&list), refused(2, 160, 33));
     list[160] = 0x09;
-    assert_eq!(write_refusal(&list), refused(1, 160));
+    assert_eq!(write_refusal(&list), refused(1, 160, 0));
+}
+
+#[test]
+fn thirty_third_arguments_of_signatures() {
+    for (kind, number, argument) in [(0x05, 3, 33), (0x0B, 2, 33), (0x09, 1, 0)] {
+        let signature = [&[0x05; 32][..], &[kind]].concat();
+        let answer = refused(number, 32, argument);
+        assert_eq!(read_refusal(&signature, &[], 0), answer);
+    }
+}
+
+#[test]
+fn thirty_third_arguments_behind_a_marker() {
+    let list = [hex("05 00000000 0A"), hex(WORD).repeat(31)].concat();
+    assert_eq!(written(Fpu, &list).len(), 32 + 128);
+    for (kind, number, argument) in [(0x05, 3, 33), (0x0B, 2, 33), (0x0A, 2, 0), (0x09, 1, 0)] {
+        let list = [&list[..], &[kind]].concat();
+        assert_eq!(write_refusal(&list), refused(number, 161, argument));
+        let signature = [&[0x05, 0x0A][..], &[0x05; 31], &[kind]].concat();
+        let answer = refused(number, 33, argument);
+        assert_eq!(read_refusal(&signature, &[], 0), answer);
+    }
 }
 
 #[test]
 fn refused_records() {
-    assert_eq!(write_refusal(&hex("05 00")), refused(4, 0));
-    assert_eq!(write_refusal(&hex("05")), refused(4, 0));
-    assert_eq!(write_refusal(&hex("0A")), refused(2, 0));
-    assert_eq!(write_refusal(&hex("0B 00000000 0A")), refused(2, 5));
+    assert_eq!(write_refusal(&hex("05 00")), refused(4, 0, 1));
+    assert_eq!(write_refusal(&hex("05")), refused(4, 0, 1));
+    assert_eq!(write_refusal(&hex("0B 000000")), refused(4, 0, 1));
+    assert_eq!(write_refusal(&hex("0B 00000000 01")), refused(4, 5, 2));
+    assert_eq!(
+        write_refusal(&hex("01 00 45 010203040506 03 00")),
+        refused(4, 9, 3)
+    );
+    assert_eq!(write_refusal(&hex("0A")), refused(2, 0, 0));
+    assert_eq!(write_refusal(&hex("0B 00000000 0A")), refused(2, 5, 0));
     assert_eq!(
         write_refusal(&hex("0B 00000000 0B 00000000")),
-        refused(2, 5)
+        refused(2, 5, 2)
     );
-    assert_eq!(write_refusal(&hex("01 00 0B 00000000")), refused(2, 2));
-    assert_eq!(write_refusal(&hex("01 00 0A 01 00 0A")), refused(2, 5));
-    assert_eq!(write_refusal(&hex("00")), refused(1, 0));
-    assert_eq!(write_refusal(&hex("05 00000000 3F")), refused(1, 5));
-    assert_eq!(read_refusal(&hex("05 0A 0A"), &[], 0), refused(2, 2));
-    assert_eq!(read_refusal(&[0x05; 33], &[], 0), refused(3, 32));
+    assert_eq!(
+        write_refusal(&hex("05 00000000 0B 00000000")),
+        refused(2, 5, 2)
+    );
+    assert_eq!(write_refusal(&hex("01 00 0B 00000000")), refused(2, 2, 2));
+    assert_eq!(write_refusal(&hex("01 00 0A 01 00 0A")), refused(2, 5, 0));
+    assert_eq!(write_refusal(&hex("00")), refused(1, 0, 0));
+    assert_eq!(write_refusal(&hex("05 00000000 3F")), refused(1, 5, 0));
+    assert_eq!(read_refusal(&hex("0A"), &[], 0), refused(2, 0, 0));
+    assert_eq!(read_refusal(&hex("0B 0A"), &[], 0), refused(2, 1, 0));
+    assert_eq!(read_refusal(&hex("05 0A 0A"), &[], 0), refused(2, 2, 0));
+    assert_eq!(read_refusal(&hex("05 05 0B"), &[], 0), refused(2, 2, 3));
+    assert_eq!(read_refusal(&hex("05 3F"), &[], 0), refused(1, 1, 0));
+}
+
+/// The marker's byte counts for the place of what stands behind it, but the
+/// marker is no argument.
+#[test]
+fn refused_records_behind_a_marker() {
+    let list = hex("05 00000000 0A 01 00 0B 00000000");
+    assert_eq!(write_refusal(&list), refused(2, 8, 3));
+    assert_eq!(write_refusal(&list[..7]), refused(4, 6, 2));
+    assert_eq!(write_refusal(&hex("01 00 0A 01 00 09")), refused(1, 5, 0));
+    assert_eq!(read_refusal(&hex("05 0A 0B"), &[], 0), refused(2, 2, 2));
+    assert_eq!(read_refusal(&hex("05 0A 09"), &[], 0), refused(1, 2, 0));
+
+    let list = [big_structure(), vec![0x0A], big_structure(), hex(WORD)].concat();
+    assert_eq!(write_refusal(&list), refused(5, 1027, 3));
+    assert_eq!(read_refusal(&hex("FF 0A FF 05"), &[], 0), refused(5, 3, 3));
 }
 
 #[test]
 fn the_reader_refuses_6_then_7_then_8() {
     let image = image_of(16, &[(R(4), 0x80)]);
-    assert_eq!(read_refusal(&[0x01], &image, 2), refused(8, 0));
-    assert_eq!(read_refusal(&[0x01], &image, 1), refused(7, 0));
-    assert_eq!(read_refusal(&[0x01], &image[..47], 1), refused(6, 0));
-    assert_eq!(read_refusal(&[0x01], &[], 0), refused(6, 0));
+    assert_eq!(read_refusal(&[0x01], &image, 2), refused(8, 0, 1));
+    assert_eq!(read_refusal(&[0x01], &image, 1), refused(7, 0, 0));
+    assert_eq!(read_refusal(&[0x01], &image[..47], 1), refused(6, 0, 0));
+    assert_eq!(read_refusal(&[0x01], &[], 0), refused(6, 0, 0));
+}
+
+#[test]
+fn the_reader_names_the_first_improper_promotion() {
     let image = image_of(16, &[(R(5), 0x100)]);
-    assert_eq!(read_refusal(&[0x05, 0x0A, 0x02], &image, 9), refused(8, 2));
+    for (signature, answer) in [
+        ("05 01", refused(8, 1, 2)),
+        ("05 02 0A", refused(8, 1, 2)),
+        ("0B 02", refused(8, 1, 2)),
+        // The marker is in the place but not in the number.
+        ("05 0A 01", refused(8, 2, 2)),
+        ("05 0A 02", refused(8, 2, 2)),
+    ] {
+        assert_eq!(read_refusal(&hex(signature), &image, 20), answer);
+    }
+    // The first of two, and the second alone.
+    let signature = hex("02 0A 05 04");
+    let two = image_of(16, &[(R(4), 0x100), (R(6), 0x1_0000)]);
+    assert_eq!(read_refusal(&signature, &two, 20), refused(8, 0, 1));
+    let second = image_of(16, &[(R(4), 0xFF), (R(6), 0x1_0000)]);
+    assert_eq!(read_refusal(&signature, &second, 20), refused(8, 3, 3));
+    // The last of 32 arguments, the marker before it.
+    let signature = [&[0x05; 31][..], &[0x0A, 0x03]].concat();
+    let last = image_of(128, &[(Stack(124), 0x8000)]);
+    assert_eq!(read_refusal(&signature, &last, 200), refused(8, 32, 32));
 }
 
 #[test]
@@ -513,7 +594,7 @@ fn output_buffers_of_every_length() {
         let mut buffer = vec![0xA5; room];
         let answer = write(Fpu, &list, &mut buffer);
         if room < image.len() {
-            assert_eq!(answer, refused(7, 0));
+            assert_eq!(answer, refused(7, 0, 0));
             assert!(buffer.iter().all(|&byte| byte == 0xA5));
         } else {
             assert_eq!(answer, success(image.len()));
@@ -547,11 +628,13 @@ fn layout(numbers: [u32; 5]) -> Layout {
 fn codes(device: Device, request: Request) -> (Vec<u8>, Vec<u8>) {
     let mut buffer = [0xA5; 128];
     let answer = prologue(device, request, &mut buffer);
-    assert_eq!((answer.refusal, answer.place), (0, 0));
-    let first = buffer[..answer.length as usize].to_vec();
+    let length = answer.length as usize;
+    assert_eq!(answer, success(length));
+    let first = buffer[..length].to_vec();
     let answer = epilogue(device, request, &mut buffer);
-    assert_eq!((answer.refusal, answer.place), (0, 0));
-    (first, buffer[..answer.length as usize].to_vec())
+    let length = answer.length as usize;
+    assert_eq!(answer, success(length));
+    (first, buffer[..length].to_vec())
 }
 
 #[test]
@@ -570,14 +653,14 @@ fn short_code_buffers_are_refused() {
     for room in 0..20 {
         let mut code = vec![0xA5; room];
         let expected = if room < 12 {
-            refused(13, 0)
+            refused(13, 0, 0)
         } else {
             success(12)
         };
         assert_eq!(prologue(Fpu, EXAMPLE, &mut code), expected);
         let mut code = vec![0xA5; room];
         let expected = if room < 16 {
-            refused(13, 0)
+            refused(13, 0, 0)
         } else {
             success(16)
         };
@@ -595,7 +678,7 @@ fn a_leaf_without_anything_has_no_frame() {
     for device in [Fpu, NoFpu] {
         assert_eq!(frame(device, request), layout([0; 5]));
         assert_eq!(prologue(device, request, &mut []), success(0));
-        assert_eq!(epilogue(device, request, &mut [0; 7]), refused(13, 0));
+        assert_eq!(epilogue(device, request, &mut [0; 7]), refused(13, 0, 0));
         assert_eq!(codes(device, request).1, hex("03E00008 00000000"));
     }
 }
@@ -670,8 +753,8 @@ fn check_frame_refusal(device: Device, request: Request, number: u32) {
     assert_eq!(frame(device, request), expected);
     for code in [prologue, epilogue] {
         let mut room = [0xA5; 200];
-        assert_eq!(code(device, request, &mut []), refused(number, 0));
-        assert_eq!(code(device, request, &mut room), refused(number, 0));
+        assert_eq!(code(device, request, &mut []), refused(number, 0, 0));
+        assert_eq!(code(device, request, &mut room), refused(number, 0, 0));
         assert_eq!(room, [0xA5; 200]);
     }
 }

@@ -17,12 +17,14 @@ pub enum Device {
 /// What a writer, a reader or a code writer answers.
 ///
 /// `refusal` is 0 on success. `place` is the offset of the refused kind byte,
-/// or 0. `length` counts the bytes written and is 0 on a refusal.
+/// or 0. `argument` is the number of the refused argument, from 1, or 0.
+/// `length` counts the bytes written and is 0 on a refusal.
 #[repr(C)]
 #[derive(Clone, Copy, Debug, Default, PartialEq, Eq)]
 pub struct Answer {
     pub refusal: u32,
     pub place: u32,
+    pub argument: u32,
     pub length: u32,
 }
 

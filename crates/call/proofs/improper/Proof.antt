@@ -18,10 +18,10 @@ reply-requires-2 : tie.Need-reply-requires-2
 reply-requires-2 c κs = search needs
 
 returns : tie.Need-returns
-returns c = λ p e. c .reply .ensures ∙ cc (c .before .before .found .given .1)
+returns c = λ p k e. c .reply .ensures ∙ cc (c .before .before .found .given .1)
 
 returns-2 : tie.Need-returns-2
-returns-2 c = λ p e. cc (c .before .enum-told .given .1)
+returns-2 c = λ p k e. cc (c .before .enum-told .given .1)
 
 pub improper-spec : {M : Type 1} → statement M
 improper-spec =

@@ -7,6 +7,9 @@ use Rattle.capi.proofs.narrowed.Tie as tie
 cast-place : tie.Need-cast-place
 cast-place c = search needs
 
+cast-argument : tie.Need-cast-argument
+cast-argument c = search needs
+
 cast-length : tie.Need-cast-length
 cast-length c = search needs
 
@@ -14,4 +17,4 @@ returns : tie.Need-returns
 returns c = search needs
 
 pub narrowed-spec : {M : Type 1} → statement M
-narrowed-spec = tie.close (tie.spec cast-place cast-length returns)
+narrowed-spec = tie.close (tie.spec cast-place cast-argument cast-length returns)

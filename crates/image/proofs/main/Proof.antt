@@ -21,13 +21,13 @@ use Rattle.image.proofs.main.Statement.{statement}
 use Rattle.image.proofs.main.Tie as tie
 
 by-test : (test : Bool) (room : ℕ) (image : List ℕ) → (test ≡ false → length image ≤ room)
-    → answerOf (cond test (C.refused 7 0) (C.done image)) .length ≤ room
+    → answerOf (cond test (C.refused 7 0 0) (C.done image)) .length ≤ room
 by-test true room image h = omega arith
 by-test false room image h = h refl
 
 -- What the writer answers lies within the buffer.
 within-room : (room : ℕ) (found : C.Answer) → answerOf (within 7 room found) .length ≤ room
-within-room room (C.refused number place) = omega arith
+within-room room (C.refused number place argument) = omega arith
 within-room room (C.done image) = by-test (ltb room (length image)) room image (ltb-false room (length image))
 
 written : (room : ℕ) (list : List ℕ) → answerOf (writeInto Fpu list room) .length ≤ room

@@ -1,12 +1,19 @@
 -- `print_refusal` is safe: the text lies within its buffer.
 -- Assumes nothing.
 use mathlib.Core.Path.{sym}
+use Prim.Native.Nat.{_≤_}
+use lib.ListN.{length}
 use lib.Seq.{length-take-le}
 use Rattle.text.specs.Text.{refusalText}
 use Rattle.text.proofs.Written.{answered-within}
 use borrow.Author.Needs.{needs}
 use Rattle.image.proofs.print_refusal.Statement.{statement}
 use Rattle.image.proofs.print_refusal.Tie as tie
+
+within : (c : tie.After-refusal-text) → c .refusal-text .result ≤ length (c .refusal-text .last .1 .1 .1 .0)
+within c =
+    let s = c .before .before in
+    answered-within (refusalText (s .args .number) (s .args .place) (s .args .argument)) (c .refusal-text .ensures .0) (c .refusal-text .kept .1 .1 .1 .0)
 
 slice-aggregate-refusal-text : tie.Need-slice-aggregate-refusal-text
 slice-aggregate-refusal-text c = search needs
@@ -15,10 +22,10 @@ refusal-text-requires : tie.Need-refusal-text-requires
 refusal-text-requires c κs = search needs
 
 array-share-prefix-out : tie.Need-array-share-prefix-out
-array-share-prefix-out c = answered-within (refusalText (c .before .before .before .args .number) (c .before .before .before .args .place)) (c .before .refusal-text .ensures .0) (c .before .refusal-text .kept .1 .1 .0)
+array-share-prefix-out c = within (c .before)
 
 slice-aggregate-write-all : tie.Need-slice-aggregate-write-all
-slice-aggregate-write-all c = sym (length-take-le (c .before .before .refusal-text .result) (c .before .before .refusal-text .last .1 .1 .0) (answered-within (refusalText (c .before .before .before .before .args .number) (c .before .before .before .before .args .place)) (c .before .before .refusal-text .ensures .0) (c .before .before .refusal-text .kept .1 .1 .0)))
+slice-aggregate-write-all c = sym (length-take-le _ _ (within (c .before .before)))
 
 write-all-requires : tie.Need-write-all-requires
 write-all-requires c κs = search needs

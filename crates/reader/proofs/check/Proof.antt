@@ -38,6 +38,9 @@ placement-of-requires c κs = ahead-ready _ false (c .before .before .before .be
 is-proper-requires : tie.Need-is-proper-requires Inv-loop μ-loop
 is-proper-requires c κs = ahead-fit _ false (c .before .before .before .before .before .before .before .before .args .signature .now) _ (c .before .before .before .before .loop .st) (c .before .before .before .before .loop .at) (c .before .before .before .before .loop .inv .ahead) (c .before .before .before .loop-test .taken) (c .before .kind-of .result) (c .before .kind-of .ensures) _ (c .placement-of .ensures) _ (omega arith)
 
+argument-of-requires : tie.Need-argument-of-requires Inv-loop μ-loop
+argument-of-requires c κs = c .before .before .before .before .before .before .loop .inv .ahead .few
+
 returns : tie.Need-returns Inv-loop μ-loop
 returns c = search (check-stops, not-true, needs)
 
@@ -68,6 +71,7 @@ check-spec =
     kind-of-requires
     placement-of-requires
     is-proper-requires
+    argument-of-requires
     returns
     add-at
     state-behind-requires

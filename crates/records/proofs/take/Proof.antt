@@ -1,6 +1,8 @@
--- `take` meets its contract: each return is the first refusal whose condition holds, or the record's kind and the state behind.
+-- `take` meets its contract: each return is the first refusal whose condition holds, or the record's kind and the state behind, with
+-- the argument's number.
 -- Assumes nothing.
 use mathlib.Core.Path.{sym, _∙_}
+use Rattle.records.specs.Records.{Ready}
 use Rattle.records.proofs.Answers.{refused-1, refused-2, refused-3, refused-4, refused-5, accepted, ready}
 use borrow.Author.Needs.{needs}
 use Rattle.records.proofs.take.Statement.{statement}
@@ -8,6 +10,9 @@ use Rattle.records.proofs.take.Tie as tie
 
 kind-of-requires : tie.Need-kind-of-requires
 kind-of-requires c κs = search needs
+
+argument-of-requires : tie.Need-argument-of-requires
+argument-of-requires c κs = c .before .pre .1
 
 is-class-requires : tie.Need-is-class-requires
 is-class-requires c κs = search needs
@@ -33,23 +38,42 @@ body-behind-requires c κs = search needs
 returns-4 : tie.Need-returns-4
 returns-4 c = search (refused-4, needs)
 
+-- a record that is not refused 1 to 4 can be placed
+placeable : (c : tie.Else4) → Ready (c .before .before .before .before .before .before .before .before .before .before .args .st) (c .before .before .before .before .before .before .before .before .before .kind-of .result)
+placeable c =
+    let k = c .before .before .before .before .before .before .before .before .before in
+    ready (k .before .args .st) (k .before .args .byte) (k .kind-of .result) (k .kind-of .ensures) (sym (c .before .before .before .is-full .ensures) ∙ c .before .before .if3 .left) (k .before .pre .0)
+
 offset-of-requires : tie.Need-offset-of-requires
-offset-of-requires c κs = ready (c .before .before .before .before .before .before .before .before .before .args .st) (c .before .before .before .before .before .before .before .before .before .args .byte) (c .before .before .before .before .before .before .before .before .kind-of .result) (c .before .before .before .before .before .before .before .before .kind-of .ensures) (sym (c .before .before .before .is-full .ensures) ∙ c .before .before .if3 .left) (c .before .before .before .before .before .before .before .before .before .pre)
+offset-of-requires c κs = placeable c
 
 state-behind-requires : tie.Need-state-behind-requires
-state-behind-requires c κs = (ready (c .before .before .before .before .before .before .before .before .before .before .args .st) (c .before .before .before .before .before .before .before .before .before .before .args .byte) (c .before .before .before .before .before .before .before .before .before .kind-of .result) (c .before .before .before .before .before .before .before .before .before .kind-of .ensures) (sym (c .before .before .before .before .is-full .ensures) ∙ c .before .before .before .if3 .left) (c .before .before .before .before .before .before .before .before .before .before .pre), c .offset-of .ensures)
+state-behind-requires c κs = (placeable (c .before), c .offset-of .ensures)
 
 returns-5 : tie.Need-returns-5
-returns-5 c = refused-5 (c .before .before .before .before .before .before .before .before .before .before .before .before .before .args .st) (c .before .before .before .before .before .before .before .before .before .before .before .before .before .args .byte) (c .before .before .before .before .before .before .before .before .before .before .before .before .before .args .bodies) (c .before .before .before .before .before .before .before .before .before .before .before .before .before .args .left) (c .before .before .before .before .before .before .before .before .before .before .before .before .kind-of .result) (c .before .before .before .before .before .before .before .before .before .before .before .before .kind-of .ensures) (c .before .before .before .before .before .before .before .before .before .before .before .is-class .result) (c .before .before .before .before .before .before .before .before .before .before .before .is-class .ensures) (c .before .before .before .before .before .before .before .before .before .before .if1 .left) (c .before .before .before .before .before .before .before .before .before .is-misplaced .result) (c .before .before .before .before .before .before .before .before .before .is-misplaced .ensures) (c .before .before .before .before .before .before .before .before .if2 .left) (c .before .before .before .before .before .before .before .is-full .result) (c .before .before .before .before .before .before .before .is-full .ensures) (c .before .before .before .before .before .before .if3 .left) (c .before .before .before .before .before .body-behind .result) (c .before .before .before .before .before .body-behind .ensures) (c .before .before .before .before .if4 .left) (c .before .before .state-behind .result) (c .before .before .state-behind .ensures) (c .if5 .taken)
+returns-5 c = search (refused-5, needs)
 
 returns-6 : tie.Need-returns-6
-returns-6 c = accepted (c .before .before .before .before .before .before .before .before .before .before .before .before .before .args .st) (c .before .before .before .before .before .before .before .before .before .before .before .before .before .args .byte) (c .before .before .before .before .before .before .before .before .before .before .before .before .before .args .bodies) (c .before .before .before .before .before .before .before .before .before .before .before .before .before .args .left) (c .before .before .before .before .before .before .before .before .before .before .before .before .kind-of .result) (c .before .before .before .before .before .before .before .before .before .before .before .before .kind-of .ensures) (c .before .before .before .before .before .before .before .before .before .before .before .is-class .result) (c .before .before .before .before .before .before .before .before .before .before .before .is-class .ensures) (c .before .before .before .before .before .before .before .before .before .before .if1 .left) (c .before .before .before .before .before .before .before .before .before .is-misplaced .result) (c .before .before .before .before .before .before .before .before .before .is-misplaced .ensures) (c .before .before .before .before .before .before .before .before .if2 .left) (c .before .before .before .before .before .before .before .is-full .result) (c .before .before .before .before .before .before .before .is-full .ensures) (c .before .before .before .before .before .before .if3 .left) (c .before .before .before .before .before .body-behind .result) (c .before .before .before .before .before .body-behind .ensures) (c .before .before .before .before .if4 .left) (c .before .before .state-behind .result) (c .before .before .state-behind .ensures) (c .if5 .left)
+returns-6 c =
+    let n = c .before .before in
+    let b = n .before .before .before in
+    let f = b .before .before in
+    let m = f .before .before in
+    let u = m .before .before in
+    let j = u .before in
+    let k = j .before in
+    let s = k .before .args in
+    accepted (s .st) (s .byte) (s .bodies) (s .left) (k .kind-of .result) (k .kind-of .ensures) (j .argument-of .result) (j .argument-of .ensures)
+    (u .is-class .result) (u .is-class .ensures) (m .before .if1 .left) (m .is-misplaced .result) (m .is-misplaced .ensures) (f .before .if2 .left)
+    (f .is-full .result) (f .is-full .ensures) (b .before .if3 .left) (b .body-behind .result) (b .body-behind .ensures) (n .before .before .if4 .left)
+    (n .state-behind .result) (n .state-behind .ensures) (c .if5 .left)
 
 pub take-spec : {M : Type 1} → statement M
 take-spec =
     tie.close
     (tie.spec
     kind-of-requires
+    argument-of-requires
     is-class-requires
     returns
     is-misplaced-requires

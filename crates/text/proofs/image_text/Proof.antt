@@ -2,13 +2,13 @@
 -- Assumes nothing.
 use mathlib.Core.Path.{_≡_, refl, sym, ap, _∙_}
 use mathlib.Core.List.{List, _++_}
-use Prim.Native.Nat.{ℕ, _*_, _-_, _/_, _≤_, _<_}
+use Prim.Native.Nat.{ℕ, _*_, _-_, _/_, _≤_}
 use native.Mathlib.Omega.{arith}
 use native.Mathlib.Numerals.{add-one}
 use lib.ListN.{length}
 use denote.Ref.{now}
 use Rattle.text.specs.Text.{lines, imageText}
-use Rattle.text.proofs.Written.{over, over-step, lines-length, answered-fits, answered-short, stored-fits, stored-short}
+use Rattle.text.proofs.Written.{over, over-step, lines-length, when-short, when-fits}
 use Rattle.text.proofs.image_text.Statement.{statement}
 use Rattle.text.proofs.image_text.Tie as tie
 
@@ -22,8 +22,7 @@ returns : tie.Need-returns Inv-loop μ-loop
 returns c =
     let image : List ℕ = now (c .before .before .before .args .image) in
     let out : List ℕ = now (c .before .before .before .args .out) in
-    let short : length out < length (imageText image) = omega (arith, lines-length image (length image / 4)) in
-    (sym (answered-short (imageText image) (length out) short), sym (stored-short (imageText image) out short))
+    when-short (imageText image) out (omega (arith, lines-length image (length image / 4)))
 
 loop-holds : tie.Need-loop-holds Inv-loop μ-loop
 loop-holds c = (omega arith, refl, refl)
@@ -74,11 +73,8 @@ returns-2 c =
     let image : List ℕ = now (c .before .before .before .before .before .args .image) in
     let out : List ℕ = now (c .before .before .before .before .before .args .out) in
     let l : length (imageText image) ≡ 9 * (length image / 4) = lines-length image (length image / 4) in
-    let fits : length (imageText image) ≤ length out = omega arith in
-    let e : c .before .loop .i ≡ length image / 4 = omega arith in (
-      sym (answered-fits (imageText image) (length out) fits ∙ l),
-      c .before .loop .inv .1 ∙ ap (λ (k : ℕ). over (lines image k) out) e ∙ sym (stored-fits (imageText image) out fits),
-    )
+    let e : c .before .loop .i ≡ length image / 4 = omega arith in
+    when-fits (imageText image) out (omega arith) (sym l) (c .before .loop .inv .1 ∙ ap (λ (k : ℕ). over (lines image k) out) e)
 
 pub image-text-spec : {M : Type 1} → statement M
 image-text-spec =
