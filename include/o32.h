@@ -162,7 +162,7 @@
  * then jr $31, and in its delay slot addiu $sp,$sp,F, or a no-operation if F is
  * 0. The longest prologue has 92 bytes, the longest epilogue 96.
  *
- * Checks in this order; place and argument are 0 for all of them:
+ * Checks in this order; place and, where there is one, argument are 0 for all:
  *
  *   no.  meaning
  *    9   the general mask names another register, or the pair mask is above 63

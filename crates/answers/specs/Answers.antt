@@ -12,8 +12,9 @@ abbrev pub within : ℕ → ℕ → C.Answer → C.Answer
 within number room (C.refused r at n) = C.refused r at n
 within number room (C.done x) = cond (ltb room (length x)) (C.refused number 0 0) (C.done x)
 
--- "A refusal returns its number, its place .., length 0"; "Success returns 0, place 0 and the exact length." A refusal "passes [the
--- argument's number] up beside the place"; success reports 0 (request (iv) of document 02).
+-- "A refusal returns its number, its place .., length 0"; "Success returns 0, place 0 and the exact length." Of the argument's number:
+-- "every refusal among 1 to 5 and 8 passes it up beside the place"; "Every other refusal reports 0, and so does success" (request
+-- (iv) of document 02).
 abbrev pub answerOf : C.Answer → Answer
 answerOf (C.refused r at n) = record { refusal = r; place = at; argument = n; length = 0 }
 answerOf (C.done x) = record { refusal = 0; place = 0; argument = 0; length = length x }

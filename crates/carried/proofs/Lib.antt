@@ -1,5 +1,6 @@
 pub mod Places
 pub mod Readings
+pub mod Plans
 pub mod Walks
 pub mod Theorem
 pub mod Records

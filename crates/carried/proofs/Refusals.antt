@@ -2,16 +2,18 @@
 -- one that the step reports of the kind byte there, in the state behind what is before.
 -- Assumes nothing.
 use mathlib.Core.Path.{_≡_, refl, subst}
+use mathlib.Core.Logic.{_⊎_, inl, inr}
 use mathlib.Core.List.{List, [], _∷_}
 use mathlib.Core.Bool.{Bool, true, false, cond}
-use Prim.Native.Nat.{ℕ, zero, suc, _+_, _≤_, _<_}
+use Prim.Native.Nat.{ℕ, suc, _+_, _≤_, _<_}
 use native.Mathlib.Omega.{arith}
 use lib.ListN.{length, getD, take}
 use lib.Seq.{length-take-le}
 use lib.Dec.{eqb, ltb}
 use borrow.Author.Tests.{le-ltb}
 use Rattle.carried.specs.Image.{Placed, reading, Answer, done, refused, checked}
-use Rattle.carried.specs.Convention.{Step, refuse, next, Convention, Plan, bad, good, also, behind, limited, after, from, plan, written, write, readUnder, read}
+use Rattle.carried.specs.Convention.{Step, refuse, next, Convention, Plan, bad, good, also, behind, from, plan, written, write, readUnder, read}
+use Rattle.carried.proofs.Plans.{Stops, by-step, by-limits, by-records}
 use Rattle.carried.proofs.Readings.{isProper}
 use Rattle.carried.proofs.Walks.{Laws, Walk, end, one, walk-of}
 
@@ -62,11 +64,10 @@ module _ (c : Convention) (number : c .State → ℕ → ℕ) where
     Found bodies at n st l (good L last) = Unit {0}
 
     found : (bodies : Bool) (l : List ℕ) (at n : ℕ) (st : c .State) → Found bodies at n st l (from c bodies at st n l)
-    found bodies [] at n st = tt
-    found bodies (b ∷ l) at (suc n) st = pass (from c bodies (suc at) st n l) (found bodies l (suc at) n st)
+    found bodies = by-records c bodies (λ at n st l q. Found bodies at n st l q) (λ at n st. tt) pass (λ at st k l r j s. first bodies at st k l j (stopped st k r j s)) join
       where
-        pass : (q : Plan (c .State)) → Found bodies (suc at) n st l q → Found bodies at (suc n) st (b ∷ l) q
-        pass (bad r place j) w = record {
+        pass : (b at n : ℕ) (st : c .State) (l : List ℕ) (q : Plan (c .State)) → Found bodies (suc at) n st l q → Found bodies at (suc n) st (b ∷ l) q
+        pass b at n st l (bad r place j) w = record {
           index = suc (w .index);
           placed = omega (arith, w .placed);
           past = omega (arith, w .past);
@@ -76,25 +77,17 @@ module _ (c : Convention) (number : c .State → ℕ → ℕ) where
           accepted = w .accepted;
           names = w .names;
         }
-        pass (good L last) w = tt
-    found bodies (k ∷ l) at zero st = go (c .step st k) refl (reports st k) (λ n st′. found bodies l (suc at) n st′)
-      where
-        fit : (j : ℕ) (p : c .Placement) (st′ : c .State) → c .step st k ≡ next j p st′ → j ≡ number st k → (t u : Bool) → c .fits st′ ≡ u
-            → ((n : ℕ) (st″ : c .State) → Found bodies (suc at) n st″ l (from c bodies (suc at) st″ n l))
-            → Found bodies at 0 st (k ∷ l) (after c at k (cond t (refuse 4 j) (cond u (next j p st′) (refuse 5 j))) (λ size st″. from c bodies (suc at) st″ (behind bodies size) l))
-        fit j p st′ e i true u f w = first bodies at st k l j i
-        fit j p st′ e i false false f w = first bodies at st k l j i
-        fit j p st′ e i false true f w = let n : ℕ = behind bodies (c .placedAt k j p .size) in join (from c bodies (suc at) st′ n l) (w n st′)
-          where
-            join : (q : Plan (c .State)) → Found bodies (suc at) (behind bodies (c .placedAt k j p .size)) st′ l q → Found bodies at 0 st (k ∷ l) (also (c .placedAt k j p) q)
-            join (bad r place x) v = later bodies at st k l place x j p st′ e f v
-            join (good L last) v = tt
+        pass b at n st l (good L last) w = tt
 
-        go : (s : Step (c .Placement) (c .State)) → c .step st k ≡ s → Reports st k s
-            → ((n : ℕ) (st′ : c .State) → Found bodies (suc at) n st′ l (from c bodies (suc at) st′ n l))
-            → Found bodies at 0 st (k ∷ l) (after c at k (limited c bodies (length l) k s) (λ size st′. from c bodies (suc at) st′ (behind bodies size) l))
-        go (refuse r j) e i w = first bodies at st k l j i
-        go (next j p st′) e i w = fit j p st′ e (i .0) (ltb (length l) (behind bodies (c .placedAt k j p .size))) (c .fits st′) refl w
+        stopped : (st : c .State) (k r j : ℕ) → Stops c bodies st k r j → j ≡ number st k
+        stopped st k r j (by-step e) = subst (Reports st k) e (reports st k)
+        stopped st k r j (by-limits p st′ e) = subst (Reports st k) e (reports st k) .0
+
+        join : (at : ℕ) (st : c .State) (k : ℕ) (l : List ℕ) (j : ℕ) (p : c .Placement) (st′ : c .State) → c .step st k ≡ next j p st′ → c .fits st′ ≡ true
+            → behind bodies (c .placedAt k j p .size) ≤ length l → (q : Plan (c .State)) → Found bodies (suc at) (behind bodies (c .placedAt k j p .size)) st′ l q
+            → Found bodies at 0 st (k ∷ l) (also (c .placedAt k j p) q)
+        join at st k l j p st′ e f h (bad r place i) w = later bodies at st k l place i j p st′ e f w
+        join at st k l j p st′ e f h (good L last) w = tt
 
     plan-stops : (bodies : Bool) (l : List ℕ) {r place j : ℕ} (r′ place′ j′ : ℕ) → plan c bodies l ≡ bad r′ place′ j′ → refused r′ place′ j′ ≡ refused r place j
         → Stop bodies 0 0 (c .start) l place j
@@ -126,13 +119,14 @@ module _ (c : Convention) (number : c .State → ℕ → ℕ) where
           go true (done y) v = tt
           go false a v = first false at st k ks (c .placedAt k j p .argument) (subst (Reports st k) e (reports st k) .1)
 
-    pub read-stops : Laws c → (sig img : List ℕ) (r place j : ℕ) → read c sig img ≡ refused r place j → (r ≡ 6 → ⊥) → Stop false 0 0 (c .start) sig place j
-    read-stops laws sig img r place j e six = go (plan c false sig) refl e
+    -- (6 is of no record)
+    pub read-stops : Laws c → (sig img : List ℕ) (r place j : ℕ) → read c sig img ≡ refused r place j → Stop false 0 0 (c .start) sig place j ⊎ (refused 6 0 0 ≡ refused r place j)
+    read-stops laws sig img r place j e = go (plan c false sig) refl e
       where
-        go : (q : Plan (c .State)) → plan c false sig ≡ q → readUnder c img q ≡ refused r place j → Stop false 0 0 (c .start) sig place j
-        go (bad r′ place′ j′) p f = plan-stops false sig r′ place′ j′ p f
+        go : (q : Plan (c .State)) → plan c false sig ≡ q → readUnder c img q ≡ refused r place j → Stop false 0 0 (c .start) sig place j ⊎ (refused 6 0 0 ≡ refused r place j)
+        go (bad r′ place′ j′) p f = inl (plan-stops false sig r′ place′ j′ p f)
         go (good L last) p f = tests (eqb (length img) (c .imageLength last)) f
           where
-            tests : (t : Bool) → cond t (checked 0 L img (done (reading L img))) (refused 6 0 0) ≡ refused r place j → Stop false 0 0 (c .start) sig place j
-            tests true g = subst (Told laws img (reading L img) 0 (c .start) sig) g (told laws img (reading L img) (walk-of c laws sig (c .start) L last 0 p) 0)
-            tests false g = let h : 6 ≡ r = cc in absurd (six (omega arith))
+            tests : (t : Bool) → cond t (checked 0 L img (done (reading L img))) (refused 6 0 0) ≡ refused r place j → Stop false 0 0 (c .start) sig place j ⊎ (refused 6 0 0 ≡ refused r place j)
+            tests true g = inl (subst (Told laws img (reading L img) 0 (c .start) sig) g (told laws img (reading L img) (walk-of c laws sig (c .start) L last 0 p) 0))
+            tests false g = inr g

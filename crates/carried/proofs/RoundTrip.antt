@@ -2,20 +2,21 @@
 -- Assumes nothing.
 use mathlib.Core.Path.{_≡_, refl, sym, ap, ap₂, _∙_, subst}
 use mathlib.Core.List.{List, [], _∷_, _++_}
-use mathlib.Core.Bool.{Bool, true, false, cond}
-use Prim.Native.Nat.{ℕ, zero, suc, _+_, _-_, _≤_}
+use mathlib.Core.Bool.{Bool, true, false}
+use Prim.Native.Nat.{ℕ, suc, _+_, _-_, _≤_}
 use native.Mathlib.Omega.{arith}
 use lib.ListN.{length, take, drop, replicate, length-append, length-replicate, take-append-drop}
 use lib.Seq.{take-at, drop-at, drop-nil, length-take-le}
-use lib.Dec.{ltb, T}
-use borrow.Author.Tests.{le-ltb, ltb-false}
+use lib.Dec.{T}
+use borrow.Author.Tests.{le-ltb}
 use Rattle.words.specs.Words.{promote, front, body, same}
 use Rattle.words.proofs.Bytes.{same-refl}
 use Rattle.carried.specs.Image.{gather, Placed, carried, promotedBytes, image, reading, done}
-use Rattle.carried.specs.Convention.{Step, refuse, next, Convention, Plan, bad, good, also, behind, limited, after, from, plan}
+use Rattle.carried.specs.Convention.{next, Convention, Plan, bad, good, also, from, plan}
 use Rattle.carried.specs.Demand.{Sized, kinds, OneEach, AllProper, Accepted, RoundTrip}
 use Rattle.carried.proofs.Places.{length-gather, gather-append, length-put, gather-put}
-use Rattle.carried.proofs.Walks.{StepLaws, StepLawful, Laws, Walk, end, one, walked, walk-kinds, walk-one-each}
+use Rattle.carried.proofs.Plans.{by-records}
+use Rattle.carried.proofs.Walks.{laws-at, Laws, Walk, end, one, walked, walk-kinds, walk-one-each}
 use Rattle.carried.proofs.Theorem.{theorem}
 
 -- ---- one record
@@ -43,32 +44,16 @@ module _ (c : Convention) (laws : Laws c) where
   Found n l (good L last) = n ≤ length l → Whole L (drop n l)
 
   found : (l : List ℕ) (at n : ℕ) (st : c .State) → Found n l (from c true at st n l)
-  found [] at n st = λ h. drop-nil n
-  found (b ∷ l) at (suc n) st = pass (from c true (suc at) st n l) (found l (suc at) n st)
+  found = by-records c true (λ at n st l q. Found n l q) (λ at n st h. drop-nil n) pass (λ at st k l r j s. tt) join
     where
-      pass : (q : Plan (c .State)) → Found n l q → Found (suc n) (b ∷ l) q
-      pass (bad r at′ j) w = tt
-      pass (good L last) w = λ h. w (omega arith)
-  found (k ∷ l) at zero st = go (c .step st k) (laws .steps st k) (λ n st′. found l (suc at) n st′)
-    where
-      join : (j : ℕ) (p : c .Placement) (st′ : c .State) → StepLaws c (laws .Free) st k (c .placedAt k j p) st′ → c .placedAt k j p .size ≤ length l
-          → (q : Plan (c .State)) → Found (c .placedAt k j p .size) l q → Found 0 (k ∷ l) (also (c .placedAt k j p) q)
-      join j p st′ e f (bad r at′ i) w = tt
-      join j p st′ e f (good L last) w = λ h. (e .kind, f, w f)
+      pass : (b at n : ℕ) (st : c .State) (l : List ℕ) (q : Plan (c .State)) → Found n l q → Found (suc n) (b ∷ l) q
+      pass b at n st l (bad r at′ j) w = tt
+      pass b at n st l (good L last) w = λ h. w (omega arith)
 
-      fit : (j : ℕ) (p : c .Placement) (st′ : c .State) → StepLaws c (laws .Free) st k (c .placedAt k j p) st′ → (t u : Bool) → ltb (length l) (c .placedAt k j p .size) ≡ t
-          → ((n : ℕ) (st″ : c .State) → Found n l (from c true (suc at) st″ n l))
-          → Found 0 (k ∷ l) (after c at k (cond t (refuse 4 j) (cond u (next j p st′) (refuse 5 j))) (λ size st″. from c true (suc at) st″ (behind true size) l))
-      fit j p st′ e true u f w = tt
-      fit j p st′ e false false f w = tt
-      fit j p st′ e false true f w =
-          let n : ℕ = c .placedAt k j p .size in
-          join j p st′ e (ltb-false (length l) n f) (from c true (suc at) st′ n l) (w n st′)
-
-      go : (s : Step (c .Placement) (c .State)) → StepLawful c (laws .Free) st k s → ((n : ℕ) (st′ : c .State) → Found n l (from c true (suc at) st′ n l))
-          → Found 0 (k ∷ l) (after c at k (limited c true (length l) k s) (λ size st′. from c true (suc at) st′ (behind true size) l))
-      go (refuse r j) e w = tt
-      go (next j p st′) e w = fit j p st′ e (ltb (length l) (c .placedAt k j p .size)) (c .fits st′) refl w
+      join : (at : ℕ) (st : c .State) (k : ℕ) (l : List ℕ) (j : ℕ) (p : c .Placement) (st′ : c .State) → c .step st k ≡ next j p st′ → c .fits st′ ≡ true
+          → c .placedAt k j p .size ≤ length l → (q : Plan (c .State)) → Found (c .placedAt k j p .size) l q → Found 0 (k ∷ l) (also (c .placedAt k j p) q)
+      join at st k l j p st′ e f h (bad r at′ i) w = tt
+      join at st k l j p st′ e f h (good L last) w = λ g. (laws-at c laws e .kind, h, w h)
 
   -- a signature is planned as it was walked
   plan-signature : {st last : c .State} {ks : List ℕ} {L : List Placed} → Walk c laws st ks L last → (at : ℕ) → from c false at st 0 ks ≡ good L last

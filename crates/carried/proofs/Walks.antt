@@ -2,7 +2,7 @@
 -- Assumes nothing.
 use mathlib.Core.Path.{_≡_, refl, sym, ap, ap₂, subst}
 use mathlib.Core.List.{List, [], _∷_, _++_}
-use mathlib.Core.Bool.{Bool, true, false, cond}
+use mathlib.Core.Bool.{Bool, true, false}
 use Prim.Native.Nat.{ℕ, zero, suc, _≤_, _<_}
 use native.Mathlib.Omega.{arith}
 use lib.ListN.{length, length-append}
@@ -10,9 +10,10 @@ use lib.Dec.{ltb}
 use borrow.Author.Tests.{le-ltb}
 use Rattle.words.specs.Words.{promote, body}
 use Rattle.carried.specs.Image.{Placed, carried, reading}
-use Rattle.carried.specs.Convention.{Step, refuse, next, Convention, Plan, bad, good, also, behind, limited, taken, after, from}
+use Rattle.carried.specs.Convention.{Step, refuse, next, Convention, Plan, bad, good, also, behind, taken, after, from}
 use Rattle.carried.specs.Demand.{In, Distinct, Sized, kinds, OneEach}
 use Rattle.carried.proofs.Places.{in-cases, distinct-append}
+use Rattle.carried.proofs.Plans.{by-records}
 use Rattle.carried.proofs.Readings.{bytesIn, length-body, fits-carriers}
 
 -- Free st p: image byte p may still be given to an argument behind this state. What one step must give: the
@@ -53,31 +54,17 @@ module _ (c : Convention) (laws : Laws c) where
   Found bodies n l st (good L last) = Walked bodies n l st L last
 
   found : (bodies : Bool) (l : List ℕ) (at n : ℕ) (st : c .State) → Found bodies n l st (from c bodies at st n l)
-  found bodies [] at n st = record { kinds-of = []; walk = end; all = λ b z. refl }
-  found bodies (b ∷ l) at (suc n) st = pass (from c bodies (suc at) st n l) (found bodies l (suc at) n st)
+  found bodies = by-records c bodies (λ at n st l q. Found bodies n l st q) (λ at n st. record { kinds-of = []; walk = end; all = λ b z. refl }) pass (λ at st k l r j s. tt) join
     where
-      pass : (q : Plan (c .State)) → Found bodies n l st q → Found bodies (suc n) (b ∷ l) st q
-      pass (bad r at′ j) w = tt
-      pass (good L last) w = record { kinds-of = w .kinds-of; walk = w .walk; all = λ b z. absurd (omega arith) }
-  found bodies (k ∷ l) at zero st = go (c .step st k) refl (λ n st′. found bodies l (suc at) n st′)
-    where
-      join : (j : ℕ) (p : c .Placement) (st′ : c .State) → c .step st k ≡ next j p st′ → c .fits st′ ≡ true → (n : ℕ) → (bodies ≡ false → n ≡ 0)
-          → (q : Plan (c .State)) → Found bodies n l st′ q → Found bodies 0 (k ∷ l) st (also (c .placedAt k j p) q)
-      join j p st′ e f n z (bad r at′ i) w = tt
-      join j p st′ e f n z (good L last) w = record { kinds-of = k ∷ w .kinds-of; walk = one e f (w .walk); all = λ b y. ap (λ (r : List ℕ). k ∷ r) (w .all b (z b)) }
+      pass : (b at n : ℕ) (st : c .State) (l : List ℕ) (q : Plan (c .State)) → Found bodies n l st q → Found bodies (suc n) (b ∷ l) st q
+      pass b at n st l (bad r at′ j) w = tt
+      pass b at n st l (good L last) w = record { kinds-of = w .kinds-of; walk = w .walk; all = λ b z. absurd (omega arith) }
 
-      fit : (j : ℕ) (p : c .Placement) (st′ : c .State) → c .step st k ≡ next j p st′ → (t u : Bool) → c .fits st′ ≡ u → ((n : ℕ) (st″ : c .State) → Found bodies n l st″ (from c bodies (suc at) st″ n l))
-          → Found bodies 0 (k ∷ l) st (after c at k (cond t (refuse 4 j) (cond u (next j p st′) (refuse 5 j))) (λ size st″. from c bodies (suc at) st″ (behind bodies size) l))
-      fit j p st′ e true u f w = tt
-      fit j p st′ e false false f w = tt
-      fit j p st′ e false true f w =
-          let n : ℕ = behind bodies (c .placedAt k j p .size) in
-          join j p st′ e f n (λ b. rw b refl) (from c bodies (suc at) st′ n l) (w n st′)
-
-      go : (s : Step (c .Placement) (c .State)) → c .step st k ≡ s → ((n : ℕ) (st′ : c .State) → Found bodies n l st′ (from c bodies (suc at) st′ n l))
-          → Found bodies 0 (k ∷ l) st (after c at k (limited c bodies (length l) k s) (λ size st′. from c bodies (suc at) st′ (behind bodies size) l))
-      go (refuse r j) e w = tt
-      go (next j p st′) e w = fit j p st′ e (ltb (length l) (behind bodies (c .placedAt k j p .size))) (c .fits st′) refl w
+      join : (at : ℕ) (st : c .State) (k : ℕ) (l : List ℕ) (j : ℕ) (p : c .Placement) (st′ : c .State) → c .step st k ≡ next j p st′ → c .fits st′ ≡ true
+          → behind bodies (c .placedAt k j p .size) ≤ length l → (q : Plan (c .State)) → Found bodies (behind bodies (c .placedAt k j p .size)) l st′ q
+          → Found bodies 0 (k ∷ l) st (also (c .placedAt k j p) q)
+      join at st k l j p st′ e f h (bad r at′ i) w = tt
+      join at st k l j p st′ e f h (good L last) w = record { kinds-of = k ∷ w .kinds-of; walk = one e f (w .walk); all = λ b y. ap (λ (r : List ℕ). k ∷ r) (w .all b (rw b refl)) }
 
   pub walked : (bodies : Bool) (l : List ℕ) (at n : ℕ) (st : c .State) (L : List Placed) (last : c .State) → from c bodies at st n l ≡ good L last → Walked bodies n l st L last
   walked bodies l at n st L last e = subst (Found bodies n l st) e (found bodies l at n st)
@@ -87,7 +74,7 @@ module _ (c : Convention) (laws : Laws c) where
       let w : Walked false 0 ks st L last = walked false ks at 0 st L last e in
       subst (λ (x : List ℕ). Walk st x L last) (w .all refl refl) (w .walk)
 
-  laws-at : {st st′ : c .State} {k j : ℕ} {p : c .Placement} → c .step st k ≡ next j p st′ → StepLaws c (laws .Free) st k (c .placedAt k j p) st′
+  pub laws-at : {st st′ : c .State} {k j : ℕ} {p : c .Placement} → c .step st k ≡ next j p st′ → StepLaws c (laws .Free) st k (c .placedAt k j p) st′
   laws-at {st} {st′} {k} {j} {p} e = subst (StepLawful c (laws .Free) st k) e (laws .steps st k)
 
   pub sized-at : {st st′ : c .State} {k j : ℕ} {p : c .Placement} → c .step st k ≡ next j p st′

@@ -17,7 +17,7 @@ pub record Convention : Type 1 where
   pub State : Type 0
   pub Placement : Type 0
   pub start : State
-  -- refusals 1 to 3, or the placement of this kind byte
+  -- refusals 1 to 3, or the placement of this kind byte, with its argument's number
   pub step : State → ℕ → Step Placement State
   -- this kind byte's record, as the argument of this number, so placed
   pub placedAt : ℕ → ℕ → Placement → Placed

@@ -52,8 +52,8 @@ pub data Answer : Type 0 where
   done : List ℕ → Answer
   refused : ℕ → ℕ → ℕ → Answer
 
--- Refusal 8 at the first kind whose bytes are no proper promotion, or else this answer. (Where promotion adds nothing, any
--- bytes are proper.)
+-- Refusal 8 at the first kind whose bytes are no proper promotion, with its argument's number, or else this answer. (Where
+-- promotion adds nothing, any bytes are proper.)
 abbrev pub checked : ℕ → List Placed → List ℕ → Answer → Answer
 checked at [] img a = a
 checked at (s ∷ L) img a =

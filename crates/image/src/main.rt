@@ -1,5 +1,9 @@
 // Reads an argument list from standard input, at most 2,048 bytes, and prints its call image for the device with a floating-point
 // unit, or its refusal.
+ghost use mathlib.Core.Path.{_≡_};
+ghost use lib.ListN.{length};
+ghost use Rattle.text.specs.Text.{answered, refusalText, stored};
+use answers::Answer;
 use device::Device;
 use libc::STDIN_FILENO;
 use libc::STDOUT_FILENO;
@@ -11,10 +15,18 @@ fn print_image(image: &[u8]) {
     io::write_all(STDOUT_FILENO, &out[..n]);
 }
 
+// The line of a refusal, at the start of a buffer.
+fn refusal_line(answer: Answer, out: &mut [u8]) -> usize
+    ensures { λ r. ⌜ r ≡ answered (refusalText (answer .refusal) (answer .place) (answer .argument)) (length (now (out .entry))) ⌝ }
+    ensures { λ _. ⌜ now (out .exit) ≡ stored (refusalText (answer .refusal) (answer .place) (answer .argument)) (now (out .entry)) ⌝ }
+{
+    text::refusal_text(answer.refusal, answer.place, answer.argument, out)
+}
+
 // A refusal as a line: 23 bytes and the digits of three numbers, at most 10, 20 and 20.
-fn print_refusal(number: u32, place: usize, argument: usize) {
+fn print_refusal(answer: Answer) {
     let mut out = [0u8; 73];
-    let n = text::refusal_text(number, place, argument, &mut out);
+    let n = refusal_line(answer, &mut out);
     io::write_all(STDOUT_FILENO, &out[..n]);
 }
 
@@ -27,6 +39,6 @@ fn main() {
         let length = answer.length;
         print_image(&image[..length]);
     } else {
-        print_refusal(answer.refusal, answer.place, answer.argument);
+        print_refusal(answer);
     }
 }

@@ -1,6 +1,6 @@
 -- The walk over records: what holds at each turn, at the end, and where a record is refused, on every device.
 -- Assumes nothing.
-use mathlib.Core.Path.{_≡_, refl, sym, ap, _∙_, subst}
+use mathlib.Core.Path.{_≡_, refl, sym, ap, _∙_}
 use mathlib.Core.List.{List}
 use mathlib.Core.Bool.{Bool}
 use Prim.Native.Nat.{ℕ, _+_, _-_, _^_, _≤_, _<_}
@@ -16,11 +16,11 @@ use Rattle.o32.specs.declared.State.{State}
 use Rattle.o32.specs.Kinds.{kindOf}
 use Rattle.o32.specs.O32.{O32, argument, onward, placement, start}
 use Rattle.placement.proofs.KindFacts.{kind-sound}
-use Rattle.placement.proofs.Bounds.{Grown, Grows, grows, Held, held-starts, held-on, held-place}
+use Rattle.placement.proofs.Bounds.{Held, held-starts, held-on, held-place}
 use Rattle.records.specs.declared.Record.{Record}
 use Rattle.records.specs.declared.Record.the-variants as R
 use Rattle.records.specs.Records.{recordOf}
-use Rattle.records.proofs.Taken.{step-refused, Took, took}
+use Rattle.records.proofs.Taken.{grown, step-refused, Took, took}
 use Rattle.measure.specs.declared.Measured.{Measured}
 use Rattle.measure.specs.declared.Measured.the-variants as M
 use Rattle.measure.specs.Measured.{measured}
@@ -75,9 +75,6 @@ module _ (bodies : Bool) (list : List ℕ) (st : State) (n at : ℕ) (w : Walkin
     one : Took Fpu bodies (length list - (at + 1)) st k kd st′
     one = here Fpu
 
-    grew : Grown st (kindOf k) (argument st (kindOf k)) (placement Fpu st (kindOf k)) (onward st (kindOf k))
-    grew = subst (Grows st (kindOf k)) (one .placed .step) (grows Fpu st (kindOf k) (kind-sound k))
-
     size-is : kd .size ≡ kindOf k .size
     size-is = ap (λ (x : Kind). x .size) (one .kind)
 
@@ -101,5 +98,5 @@ module _ (bodies : Bool) (list : List ℕ) (st : State) (n at : ℕ) (w : Walkin
             rw (i, one .kind) (w .ahead d
             ∙ ap (λ (q : Plan State). further n (measured q)) (passed (O32 d) bodies list at st h (argument st (kindOf k)) (placement d st (kindOf k)) (onward st (kindOf k)) (here d .placed .whole))
             ∙ further-also n (O32 d .placedAt k (argument st (kindOf k)) (placement d st (kindOf k))) (onFrom (O32 d) bodies list (at + 1 + behind bodies (kindOf k .size)) (onward st (kindOf k))));
-        held = held-on (w .held) grew (one .placed .fits) (n + 1 + kd .size) 0 (omega (arith, size-is));
+        held = held-on (w .held) (grown (one .placed)) (one .placed .fits) (n + 1 + kd .size) 0 (omega (arith, size-is));
       })

@@ -25,7 +25,7 @@ pub enum Measured {
 
 // A refused record's answer, as that of the whole.
 fn refusal(answer: Record, place: usize) -> Measured
-    ensures { λ r. ⌜ ((n j : ℕ) → answer ≡ Record.Refused n j → r ≡ Measured.Refused n place j) ⌝ }
+    ensures { λ r. ⌜ ((n k : ℕ) → answer ≡ Record.Refused n k → r ≡ Measured.Refused n place k) ⌝ }
 {
     match answer {
         Record::Refused(number, argument) => Measured::Refused {
@@ -47,7 +47,7 @@ fn measure(list: &[u8], bodies: bool) -> Measured
     while at < list.len() {
         let left = list.len() - (at + 1);
         let answer = records::take(st, list[at], bodies, left);
-        let Record::Taken(_, kind, next) = answer else {
+        let Record::Taken { kind, next, .. } = answer else {
             return refusal(answer, at);
         };
         length = length + 1 + kind.size;

@@ -1,7 +1,7 @@
 -- The twelve bench cases that are to be proved, and the case of request (ii) of document 02: one table, one theorem, by
--- computation. And the edges, likewise.
+-- computation. And the edges and the argument's numbers of request (iv), likewise.
 -- Assumes nothing.
-use mathlib.Core.List.{List, [], _∷_, _++_}
+use mathlib.Core.List.{List, [], _∷_, _++_, map}
 use mathlib.Core.Bool.{Bool, true, false, _&&_}
 use Prim.Native.Nat.{ℕ}
 use lib.Dec.{T, eqb}
@@ -9,8 +9,9 @@ use lib.ListN.{replicate}
 use Rattle.words.specs.Words.{bytesOf, same}
 use Rattle.device.specs.declared.Device.{Device}
 use Rattle.device.specs.declared.Device.the-variants.{Fpu, NoFpu}
-use Rattle.carried.specs.Image.{Answer, done, refused}
-use Rattle.carried.specs.Convention.{write, read}
+use Rattle.carried.specs.Image.{Placed, Answer, done, refused}
+use Rattle.carried.specs.Convention.{Plan, bad, good, plan, write, read}
+use Rattle.o32.specs.declared.State.{State}
 use Rattle.o32.specs.O32.{O32}
 
 -- a device and a list, and its image by words: $4 to $7, $f12 to $f15, the area
@@ -102,12 +103,19 @@ edges : T (refuses (read (O32 Fpu) (replicate 32 0x05) []) 6 0 0
     && refuses (read (O32 Fpu) (0x01 ∷ []) (wordBytes (0x80 ∷ replicate 11 0))) 8 0 1)
 edges = tt
 
--- Request (iv) of document 02, the argument's number where the edges have none or the first: behind other arguments, and behind a
--- marker, which counts for the place and not for the number.
+-- The numbers of the records that are taken.
+abbrev reports : Plan State → List ℕ → Bool
+reports (bad r at k) ns = false
+reports (good L st) ns = same (map (λ (s : Placed). s .argument) L) ns
+
+-- Request (iv) of document 02: the argument's number behind other arguments, and behind a marker, which counts for the place and not
+-- for the number.
 numbers : T (refuses (read (O32 Fpu) (replicate 32 0x05 ++ marker ++ (0x05 ∷ [])) []) 3 33 33
     -- a misplaced return pointer has the number that it would have, also the 33rd
     && refuses (read (O32 Fpu) (0x05 ∷ 0x0B ∷ []) []) 2 1 2
     && refuses (read (O32 Fpu) (replicate 32 0x05 ++ (0x0B ∷ [])) []) 2 32 33
+    -- a return pointer counts
+    && refuses (write (O32 Fpu) (pointer 1 ++ (0x05 ∷ 0 ∷ []))) 4 5 2
     -- a second marker, a marker behind a return pointer alone, an unknown kind: none
     && refuses (write (O32 Fpu) (n 1 ++ marker ++ marker)) 2 6 0
     && refuses (write (O32 Fpu) (pointer 1 ++ marker)) 2 5 0
@@ -116,5 +124,7 @@ numbers : T (refuses (read (O32 Fpu) (replicate 32 0x05 ++ marker ++ (0x05 ∷ [
     && refuses (write (O32 Fpu) (n 1 ++ marker ++ (0x05 ∷ 0 ∷ []))) 4 6 2
     && refuses (read (O32 Fpu) (0xFF ∷ 0xFF ∷ 0x0A ∷ 0x05 ∷ []) []) 5 3 3
     -- no proper promotion, likewise
-    && refuses (read (O32 Fpu) (0x05 ∷ 0x0A ∷ 0x01 ∷ []) (wordBytes (0 ∷ 0x80 ∷ replicate 10 0))) 8 2 2)
+    && refuses (read (O32 Fpu) (0x05 ∷ 0x0A ∷ 0x01 ∷ []) (wordBytes (0 ∷ 0x80 ∷ replicate 10 0))) 8 2 2
+    -- what the step reports of the records that it takes
+    && reports (plan (O32 Fpu) false (0x0B ∷ 0x05 ∷ 0x0A ∷ 0x05 ∷ [])) (1 ∷ 2 ∷ 0 ∷ 3 ∷ []))
 numbers = tt

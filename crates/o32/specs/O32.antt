@@ -81,8 +81,8 @@ onward st k = cond (is Marker k)
     })
 
 -- The number of the argument that a record is or would be: the arguments before it and itself. A marker is none, and an unknown
--- kind neither. Request (iv) of document 02: "At a record that would be argument k it is k; at a misplaced marker or an unknown
--- kind 0."
+-- kind neither. Request (iv) of document 02: "the argument's number, from 1, with 0 for a marker"; "At a record that would be
+-- argument k it is k; at a misplaced marker or an unknown kind 0."
 abbrev pub argument : State → Kind → ℕ
 argument st k = cond (is Unknown k || is Marker k) 0 (st .count + 1)
 

@@ -4,14 +4,15 @@
 use mathlib.Core.Path.{_≡_, refl, subst}
 use mathlib.Core.List.{List, [], _∷_}
 use mathlib.Core.Bool.{Bool, true, false, cond, not, _&&_, _||_}
-use Prim.Native.Nat.{ℕ, zero, suc, _+_, _≤_}
+use Prim.Native.Nat.{ℕ, suc, _+_, _≤_}
 use native.Mathlib.Omega.{arith}
 use lib.ListN.{length}
-use lib.Dec.{leb, ltb}
+use lib.Dec.{leb}
 use borrow.Author.Tests.{leb-true, leb-false}
 use Rattle.device.specs.declared.Device.{Device}
 use Rattle.carried.specs.Image.{Placed}
-use Rattle.carried.specs.Convention.{Step, refuse, next, Plan, bad, good, also, behind, limited, after, from, plan}
+use Rattle.carried.specs.Convention.{Step, refuse, next, Plan, bad, good, also, behind, from, plan}
+use Rattle.carried.proofs.Plans.{Stops, by-step, by-limits, by-records}
 use Rattle.o32.specs.declared.Class.the-variants.{Unknown, Marker, Signed, Unsigned}
 use Rattle.o32.specs.declared.Kind.{Kind}
 use Rattle.o32.specs.declared.State.{State}
@@ -39,7 +40,7 @@ abbrev pub Grows : State → Kind → Step Placement State → Type 0
 Grows st k (refuse r j) = j ≤ st .count + 1
 Grows st k (next j p st′) = Grown st k j p st′
 
-pub argument-le : (st : State) (k : Kind) → argument st k ≤ st .count + 1
+argument-le : (st : State) (k : Kind) → argument st k ≤ st .count + 1
 argument-le st k = go (is Unknown k || is Marker k)
   where
     go : (t : Bool) → cond t 0 (st .count + 1) ≤ st .count + 1
@@ -140,30 +141,26 @@ also-reaches n m s (bad r p j) e a h = h
 also-reaches n m s (good L last) e a h = record { long = omega (arith, h .long); numbers = (a, h .numbers); fits = h .fits }
 
 reaches : (d : Device) (bodies : Bool) (l : List ℕ) (at n : ℕ) (st : State) → Held at n st → Reaches (at + length l) (from (O32 d) bodies at st n l)
-reaches d bodies [] at n st h = record { long = omega (arith, held-place at n st h); numbers = tt; fits = h .fits }
-reaches d bodies (b ∷ l) at (suc n) st h =
-    subst (λ (m : ℕ). Reaches m (from (O32 d) bodies (suc at) st n l)) (omega arith)
-    (reaches d bodies l (suc at) n st (record { before = omega (arith, h .before); fits = h .fits; few = h .few }))
-reaches d bodies (k ∷ l) at zero st h = go (O32 d .step st k) (grows d st (kindOf k) (kind-sound k)) (λ n st′ w. reaches d bodies l (suc at) n st′ w)
+reaches d bodies = by-records (O32 d) bodies (λ at n st l q. Held at n st → Reaches (at + length l) q)
+    (λ at n st h. record { long = omega (arith, held-place at n st h); numbers = tt; fits = h .fits }) pass stop join
   where
-    here : (j : ℕ) → j ≤ st .count + 1 → (at ≤ 1057) × (j ≤ 33)
-    here j a = (omega (arith, held-place at 0 st h), omega (arith, h .few))
+    named : (st : State) (k r j : ℕ) → Stops (O32 d) bodies st k r j → j ≤ st .count + 1
+    named st k r j (by-step e) = subst (Grows st (kindOf k)) e (grows d st (kindOf k) (kind-sound k))
+    named st k r j (by-limits p st′ e) = subst (Grows st (kindOf k)) e (grows d st (kindOf k) (kind-sound k)) .number
 
-    fit : (j : ℕ) (p : Placement) (st′ : State) → Grown st (kindOf k) j p st′ → (t u : Bool) → leb (st′ .end) 1024 ≡ u
-        → ((n : ℕ) (st″ : State) → Held (suc at) n st″ → Reaches (suc at + length l) (from (O32 d) bodies (suc at) st″ n l))
-        → Reaches (at + length (k ∷ l)) (after (O32 d) at k (cond t (refuse 4 j) (cond u (next j p st′) (refuse 5 j))) (λ size st″. from (O32 d) bodies (suc at) st″ (behind bodies size) l))
-    fit j p st′ g true u f rest = here j (g .number)
-    fit j p st′ g false false f rest = here j (g .number)
-    fit j p st′ g false true f rest =
-        let n : ℕ = behind bodies (p .kind .size) in
-        let w : Held (suc at) n st′ = held-on h g (leb-true (st′ .end) 1024 f) (suc at) n (omega (arith, g .size, behind-le bodies (p .kind .size))) in
-        also-reaches (suc at + length l) (at + length (k ∷ l)) (O32 d .placedAt k j p) (from (O32 d) bodies (suc at) st′ n l) (omega arith) (here j (g .number) .1) (rest n st′ w)
+    pass : (b at n : ℕ) (st : State) (l : List ℕ) (q : Plan State) → (Held (suc at) n st → Reaches (suc at + length l) q) → Held at (suc n) st → Reaches (at + length (b ∷ l)) q
+    pass b at n st l q w h = subst (λ (m : ℕ). Reaches m q) (omega arith) (w (record { before = omega (arith, h .before); fits = h .fits; few = h .few }))
 
-    go : (s : Step Placement State) → Grows st (kindOf k) s
-        → ((n : ℕ) (st′ : State) → Held (suc at) n st′ → Reaches (suc at + length l) (from (O32 d) bodies (suc at) st′ n l))
-        → Reaches (at + length (k ∷ l)) (after (O32 d) at k (limited (O32 d) bodies (length l) k s) (λ size st′. from (O32 d) bodies (suc at) st′ (behind bodies size) l))
-    go (refuse r j) g rest = here j g
-    go (next j p st′) g rest = fit j p st′ g (ltb (length l) (behind bodies (p .kind .size))) (leb (st′ .end) 1024) refl rest
+    stop : (at : ℕ) (st : State) (k : ℕ) (l : List ℕ) (r j : ℕ) → Stops (O32 d) bodies st k r j → Held at 0 st → Reaches (at + length (k ∷ l)) (bad r at j)
+    stop at st k l r j s h = (omega (arith, held-place at 0 st h), omega (arith, named st k r j s, h .few))
+
+    join : (at : ℕ) (st : State) (k : ℕ) (l : List ℕ) (j : ℕ) (p : Placement) (st′ : State) → O32 d .step st k ≡ next j p st′ → leb (st′ .end) 1024 ≡ true
+        → behind bodies (p .kind .size) ≤ length l → (q : Plan State) → (Held (suc at) (behind bodies (p .kind .size)) st′ → Reaches (suc at + length l) q)
+        → Held at 0 st → Reaches (at + length (k ∷ l)) (also (O32 d .placedAt k j p) q)
+    join at st k l j p st′ e f i q w h =
+        let g : Grown st (kindOf k) j p st′ = subst (Grows st (kindOf k)) e (grows d st (kindOf k) (kind-sound k)) in
+        let v : Held (suc at) (behind bodies (p .kind .size)) st′ = held-on h g (leb-true (st′ .end) 1024 f) (suc at) (behind bodies (p .kind .size)) (omega (arith, g .size, behind-le bodies (p .kind .size))) in
+        also-reaches (suc at + length l) (at + length (k ∷ l)) (O32 d .placedAt k j p) q (omega arith) (omega (arith, g .number, h .few)) (w v)
 
 -- ---- a whole list or signature
 

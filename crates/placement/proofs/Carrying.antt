@@ -33,7 +33,7 @@ use Rattle.placement.proofs.Runs.{span-below, span-high}
 
 -- ---- the state behind some kinds
 
-abbrev reach : State → List ℕ → State
+abbrev pub reach : State → List ℕ → State
 reach st [] = st
 reach st (k ∷ ks) = reach (onward st (kindOf k)) ks
 
@@ -235,7 +235,7 @@ module _ (d : Device) (before : List ℕ) (k j : ℕ) (s : Placed)
   }
 
 -- At every accepted signature, the record of every kind byte is placed by the kinds before,
-placed-behind : (d : Device) (before : List ℕ) (k : ℕ) (behind : List ℕ) (L : List Placed) (last : State) → plan (O32 d) false (before ++ (k ∷ behind)) ≡ good L last
+pub placed-behind : (d : Device) (before : List ℕ) (k : ℕ) (behind : List ℕ) (L : List Placed) (last : State) → plan (O32 d) false (before ++ (k ∷ behind)) ≡ good L last
     → (M : List Placed) (s : Placed) (N : List Placed) → L ≡ M ++ (s ∷ N) → length M ≡ length before
     → s ≡ O32 d .placedAt k (argument (reach start before) (kindOf k)) (record { kind = kindOf k; offset = offset (kindOf k) (endOf 0 before); register = registerBehind d before k })
 placed-behind d before k behind L last ok M s N e h =

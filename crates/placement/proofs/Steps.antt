@@ -1,4 +1,5 @@
--- What holds of a record that a step of O32 places: its placement, the state behind it, and where it ends.
+-- What holds of a record that a step of O32 places: its placement, the state behind it, and where it ends; and the number that the
+-- step reports, also where it refuses.
 -- Assumes nothing.
 use mathlib.Core.Path.{_≡_, refl, ap, _∙_, subst}
 use mathlib.Core.Logic.{_⊎_, inl, inr}

@@ -1,5 +1,6 @@
 -- Which argument a refusal names, said of the kinds that stand before its place (request (iv) of document 02).
 use mathlib.Core.Path.{_≡_}
+use mathlib.Core.Logic.{_⊎_}
 use mathlib.Core.List.{List, [], _∷_}
 use mathlib.Core.Bool.{Bool, cond, _||_}
 use Prim.Native.Nat.{ℕ, _+_, _<_}
@@ -23,11 +24,15 @@ argumentsIn (k ∷ ks) = cond (is Marker (kindOf k)) 0 1 + argumentsIn ks
 abbrev pub argumentBehind : List ℕ → ℕ → ℕ
 argumentBehind before k = cond (is Unknown (kindOf k) || is Marker (kindOf k)) 0 (argumentsIn before + 1)
 
--- A refusal at this place of a list (true) or a signature (false) names argument j: the bytes before the place are accepted, and j
--- is the number of what stands there behind their kinds.
+-- Argument j is what stands at this place of a list (true) or a signature (false): the bytes before the place are accepted, and j is
+-- the number of the kind there behind their kinds.
 pub record Named (d : Device) (bodies : Bool) (l : List ℕ) (place j : ℕ) : Type 0 where
   pub before : List Placed
   pub last : State
   pub inside : place < length l
   pub accepted : plan (O32 d) bodies (take place l) ≡ good before last
   pub number : j ≡ argumentBehind (kinds before) (getD l place 0)
+
+-- What a refusal r names: the argument at its place. 6 and 7 are of no record and name none: "Every other refusal reports 0".
+abbrev pub Names : Device → Bool → List ℕ → ℕ → ℕ → ℕ → Type 0
+Names d bodies l r place j = Named d bodies l place j ⊎ (((r ≡ 6) ⊎ (r ≡ 7)) × (place ≡ 0) × (j ≡ 0))

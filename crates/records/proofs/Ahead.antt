@@ -22,11 +22,10 @@ use Rattle.o32.specs.Offsets.{extension, offset}
 use Rattle.o32.specs.O32.{O32, area, carriers, argument, onward, placement, register, start}
 use Rattle.placement.proofs.KindFacts.{kind-sound}
 use Rattle.placement.proofs.Laws.{O32-laws, up-ge}
-use Rattle.placement.proofs.Bounds.{Grown, Grows, grows}
 use Rattle.placement.proofs.Steps.{ends-within, word-aligned, register-floats}
 use Rattle.records.specs.Records.{Ready}
 use Rattle.records.proofs.Answers.{ready}
-use Rattle.records.proofs.Taken.{Placing, placing}
+use Rattle.records.proofs.Taken.{Placing, grown, placing}
 use Rattle.placement.specs.Fitting.{Fit}
 
 -- the records from this place on, of a list or signature whose image has m bytes
@@ -117,15 +116,12 @@ module _ (d : Device) (bodies : Bool) (list : List ℕ) (m : ℕ) (st : State) (
       let v : Walked (O32 d) (O32-laws d) bodies 0 (drop at₀ list) st₀ M (w .last) = walked (O32 d) (O32-laws d) bodies (drop at₀ list) at₀ 0 st₀ M (w .last) f in
       omega (arith, w .whole, walk-grows (O32 d) (O32-laws d) (v .walk))
 
-  grown : Grown st (kindOf k) j₀ p₀ st₀
-  grown = subst (Grows st (kindOf k)) (here .step) (grows d st (kindOf k) (kind-sound k))
-
   behind-it : Behind d bodies list m at (w .placed) j₀ p₀ st₀ at₀
   behind-it = go (w .placed) parts refl
     where
       go : (L : List Placed) → Begun (O32 d .placedAt k j₀ p₀) (onFrom (O32 d) bodies list at₀ st₀) (w .last) L → w .placed ≡ L → Behind d bodies list m at (w .placed) j₀ p₀ st₀ at₀
       go _ (begun M f) q = record {
-        rest = record { inside = inside-it; placed = M; last = w .last; ahead = f; whole = w .whole; fits = here .fits; few = grown .few (w .few) };
+        rest = record { inside = inside-it; placed = M; last = w .last; ahead = f; whole = w .whole; fits = here .fits; few = grown here .few (w .few) };
         split = q;
       }
 

@@ -121,9 +121,18 @@ module _ (st : State) (k : Kind) where
 
 -- ---- the record step: the tests that a record has passed, and the answer where one fails
 
+module _ (st : State) (k : ℕ) (bodies : Bool) (left : ℕ) where
+  abbrev Gives : Record → Type 0
+  Gives r = (d : Device) → r ≡ recordOf (taken (O32 d) bodies left st k)
+
+  -- a record that is not refused 1 to 4: its answer, by the state n behind it
+  pub record Ended (kd : Kind) (j : ℕ) (n : State) : Type 0 where
+    pub beyond : 1024 < n .end → Gives (R.Refused 5 j)
+    pub inside : n .end ≤ 1024 → Gives (R.Taken j kd n)
+
 module _ (st : State) (k : ℕ) (bodies : Bool) (left : ℕ) (kd : Kind) (e : kd ≡ kindOf k) (j : ℕ) (counted : j ≡ argument st kd) where
   abbrev Given : Record → Type 0
-  Given r = (d : Device) → r ≡ recordOf (taken (O32 d) bodies left st k)
+  Given r = Gives st k bodies left r
 
   answer : (r : Record) → ((d : Device) → r ≡ recordOf (limited (O32 d) bodies left k (stepped d st kd))) → Given r
   answer r h d = h d ∙ ap (λ (x : Kind). recordOf (limited (O32 d) bodies left k (stepped d st x))) e
@@ -148,11 +157,11 @@ module _ (st : State) (k : ℕ) (bodies : Bool) (left : ℕ) (kd : Kind) (e : kd
             limit : (r : Record) → ((d : Device) → r ≡ recordOf (cond (leb (onward st kd .end) 1024) (next (argument st kd) (placement d st kd) (onward st kd)) (refuse 5 (argument st kd)))) → Given r
             limit r h = answer r (λ d. h d ∙ sym (rw (sym known ∙ h₁, sym placed ∙ h₂, sym roomy ∙ h₃, le-ltb left (behind bodies (kd .size)) (rw needed at h₄))))
 
-            pub refused-5 : 1024 < n .end → Given (R.Refused 5 j)
-            refused-5 h = limit (R.Refused 5 j) (λ d. rw (counted, lt-leb (onward st kd .end) 1024 (rw on at h)))
-
-            pub accepted : n .end ≤ 1024 → Given (R.Taken j kd n)
-            accepted h = limit _ (λ d. rw (counted, on) (rw (le-leb (onward st kd .end) 1024 (rw on at h))))
+            pub ended : Ended st k bodies left kd j n
+            ended = record {
+              beyond = λ h. limit (R.Refused 5 j) (λ d. rw (counted, lt-leb (onward st kd .end) 1024 (rw on at h)));
+              inside = λ h. limit (R.Taken j kd n) (λ d. rw (counted, on) (rw (le-leb (onward st kd .end) 1024 (rw on at h))));
+            }
 
 -- a kind of the table can be placed behind arguments in their limits
 pub ready : (st : State) (k : ℕ) (kd : Kind) → kd ≡ kindOf k → full st kd ≡ false → st .end ≤ 1024 → Ready st kd

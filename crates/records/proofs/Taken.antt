@@ -13,7 +13,9 @@ use Rattle.o32.specs.declared.State.{State}
 use Rattle.o32.specs.declared.Placement.{Placement}
 use Rattle.o32.specs.Kinds.{kindOf}
 use Rattle.o32.specs.O32.{O32, full, argument, onward, placement}
+use Rattle.placement.proofs.KindFacts.{kind-sound}
 use Rattle.placement.proofs.Steps.{Stepped, step-says}
+use Rattle.placement.proofs.Bounds.{Grown, Grows, grows}
 use Rattle.records.specs.declared.Record.the-variants as R
 use Rattle.records.specs.Records.{recordOf}
 
@@ -23,6 +25,11 @@ pub record Placing (d : Device) (bodies : Bool) (left : ℕ) (st : State) (k : �
   pub step : O32 d .step st k ≡ next (argument st (kindOf k)) (placement d st (kindOf k)) (onward st (kindOf k))
   pub fits : onward st (kindOf k) .end ≤ 1024
   pub few : full st (kindOf k) ≡ false
+
+-- and so it has room for its bytes
+pub grown : {d : Device} {bodies : Bool} {left : ℕ} {st : State} {k : ℕ} → Placing d bodies left st k
+    → Grown st (kindOf k) (argument st (kindOf k)) (placement d st (kindOf k)) (onward st (kindOf k))
+grown {d = d} {st = st} {k = k} w = subst (Grows st (kindOf k)) (w .step) (grows d st (kindOf k) (kind-sound k))
 
 abbrev Limits : Step Placement State → Step Placement State → Type 0
 Limits s (refuse r j) = Unit {0}

@@ -21,7 +21,11 @@ use o32::State;
 // it is none; or this argument's number, the record's kind and the state behind it.
 pub enum Record {
     Refused(u32, usize),
-    Taken(usize, Kind, State),
+    Taken {
+        argument: usize,
+        kind: Kind,
+        next: State,
+    },
 }
 
 // The next multiple of an alignment of 4 or 8 from n on; 0 where there is no alignment.
@@ -217,5 +221,9 @@ pub fn take(st: State, byte: u8, bodies: bool, left: usize) -> Record
     if 1024 < next.end {
         return Record::Refused(5, argument);
     }
-    Record::Taken(argument, kind, next)
+    Record::Taken {
+        argument,
+        kind,
+        next,
+    }
 }

@@ -37,15 +37,15 @@ unfoldable pub decimal : ℕ → List ℕ
 decimal n = digits (suc n) n
 
 -- "refused "
-abbrev pub refused : List ℕ
+abbrev refused : List ℕ
 refused = 114 ∷ 101 ∷ 102 ∷ 117 ∷ 115 ∷ 101 ∷ 100 ∷ 32 ∷ []
 
 -- " at "
-abbrev pub at : List ℕ
+abbrev at : List ℕ
 at = 32 ∷ 97 ∷ 116 ∷ 32 ∷ []
 
 -- " argument "
-abbrev pub argumentWord : List ℕ
+abbrev argumentWord : List ℕ
 argumentWord = 32 ∷ 97 ∷ 114 ∷ 103 ∷ 117 ∷ 109 ∷ 101 ∷ 110 ∷ 116 ∷ 32 ∷ []
 
 -- "refused N at P argument K" and a newline.

@@ -10,16 +10,16 @@ use borrow.Author.Needs.{needs}
 use Rattle.image.proofs.print_refusal.Statement.{statement}
 use Rattle.image.proofs.print_refusal.Tie as tie
 
-within : (c : tie.After-refusal-text) → c .refusal-text .result ≤ length (c .refusal-text .last .1 .1 .1 .0)
+within : (c : tie.After-refusal-line) → c .refusal-line .result ≤ length (c .refusal-line .last .1 .0)
 within c =
     let s = c .before .before in
-    answered-within (refusalText (s .args .number) (s .args .place) (s .args .argument)) (c .refusal-text .ensures .0) (c .refusal-text .kept .1 .1 .1 .0)
+    answered-within (refusalText (s .args .answer .refusal) (s .args .answer .place) (s .args .answer .argument)) (c .refusal-line .ensures .0) (c .refusal-line .kept .1 .0)
 
-slice-aggregate-refusal-text : tie.Need-slice-aggregate-refusal-text
-slice-aggregate-refusal-text c = search needs
+slice-aggregate-refusal-line : tie.Need-slice-aggregate-refusal-line
+slice-aggregate-refusal-line c = search needs
 
-refusal-text-requires : tie.Need-refusal-text-requires
-refusal-text-requires c κs = search needs
+refusal-line-requires : tie.Need-refusal-line-requires
+refusal-line-requires c κs = search needs
 
 array-share-prefix-out : tie.Need-array-share-prefix-out
 array-share-prefix-out c = within (c .before)
@@ -37,8 +37,8 @@ pub print-refusal-spec : {M : Type 1} → statement M
 print-refusal-spec =
     tie.close
     (tie.spec
-    slice-aggregate-refusal-text
-    refusal-text-requires
+    slice-aggregate-refusal-line
+    refusal-line-requires
     array-share-prefix-out
     slice-aggregate-write-all
     write-all-requires

@@ -11,10 +11,10 @@ enum-told : tie.Need-enum-told
 enum-told c = search needs
 
 returns : tie.Need-returns
-returns c = λ n j e. cc (c .before .answer .given .1)
+returns c = λ n k e. cc (c .before .answer .given .1)
 
 returns-2 : tie.Need-returns-2
-returns-2 c = λ n j e. cc (c .enum-told .given .1)
+returns-2 c = λ n k e. cc (c .enum-told .given .1)
 
 pub refusal-spec : {M : Type 1} → statement M
 refusal-spec = tie.close (tie.spec enum-known-answer enum-told returns returns-2)

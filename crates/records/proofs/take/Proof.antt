@@ -3,7 +3,7 @@
 -- Assumes nothing.
 use mathlib.Core.Path.{sym, _∙_}
 use Rattle.records.specs.Records.{Ready}
-use Rattle.records.proofs.Answers.{refused-1, refused-2, refused-3, refused-4, refused-5, accepted, ready}
+use Rattle.records.proofs.Answers.{refused-1, refused-2, refused-3, refused-4, Ended, ended, ready}
 use borrow.Author.Needs.{needs}
 use Rattle.records.proofs.take.Statement.{statement}
 use Rattle.records.proofs.take.Tie as tie
@@ -50,23 +50,28 @@ offset-of-requires c κs = placeable c
 state-behind-requires : tie.Need-state-behind-requires
 state-behind-requires c κs = (placeable (c .before), c .offset-of .ensures)
 
-returns-5 : tie.Need-returns-5
-returns-5 c = search (refused-5, needs)
-
-returns-6 : tie.Need-returns-6
-returns-6 c =
-    let n = c .before .before in
-    let b = n .before .before .before in
+-- where the record ends decides
+by-end : (c : tie.After-struct-known)
+    → let k = c .before .before .before .before .before .before .before .before .before .before .before .before in
+    Ended (k .before .args .st) (k .before .args .byte) (k .before .args .bodies) (k .before .args .left) (k .kind-of .result)
+    (c .before .before .before .before .before .before .before .before .before .before .before .argument-of .result) (c .before .state-behind .result)
+by-end c =
+    let b = c .before .before .before .before in
     let f = b .before .before in
     let m = f .before .before in
     let u = m .before .before in
-    let j = u .before in
-    let k = j .before in
+    let k = u .before .before in
     let s = k .before .args in
-    accepted (s .st) (s .byte) (s .bodies) (s .left) (k .kind-of .result) (k .kind-of .ensures) (j .argument-of .result) (j .argument-of .ensures)
+    ended (s .st) (s .byte) (s .bodies) (s .left) (k .kind-of .result) (k .kind-of .ensures) (u .before .argument-of .result) (u .before .argument-of .ensures)
     (u .is-class .result) (u .is-class .ensures) (m .before .if1 .left) (m .is-misplaced .result) (m .is-misplaced .ensures) (f .before .if2 .left)
-    (f .is-full .result) (f .is-full .ensures) (b .before .if3 .left) (b .body-behind .result) (b .body-behind .ensures) (n .before .before .if4 .left)
-    (n .state-behind .result) (n .state-behind .ensures) (c .if5 .left)
+    (f .is-full .result) (f .is-full .ensures) (b .before .if3 .left) (b .body-behind .result) (b .body-behind .ensures) (c .before .before .before .if4 .left)
+    (c .before .state-behind .result) (c .before .state-behind .ensures)
+
+returns-5 : tie.Need-returns-5
+returns-5 c = by-end (c .before) .beyond (c .if5 .taken)
+
+returns-6 : tie.Need-returns-6
+returns-6 c = by-end (c .before) .inside (c .if5 .left)
 
 pub take-spec : {M : Type 1} → statement M
 take-spec =
