@@ -84,7 +84,7 @@ module _ (d : Device) (st : State) (k : Kind) (s : Sound k) where
             few = rw g (λ h. omega (arith, leb-false 32 (st .count) n));
           }
 
-  pub grows : Grows st k (stepped d st k)
+  grows : Grows st k (stepped d st k)
   grows = go (is Unknown k) (misplaced st k) (full st k) refl refl refl
     where
       go : (u m f : Bool) → is Unknown k ≡ u → misplaced st k ≡ m → full st k ≡ f
@@ -93,6 +93,9 @@ module _ (d : Device) (st : State) (k : Kind) (s : Sound k) where
       go false true f h e g = argument-le st k
       go false false true h e g = argument-le st k
       go false false false h e g = grown h e g
+
+pub step-grows : (d : Device) (st : State) (k : ℕ) {s : Step Placement State} → O32 d .step st k ≡ s → Grows st (kindOf k) s
+step-grows d st k e = subst (Grows st (kindOf k)) e (grows d st (kindOf k) (kind-sound k))
 
 -- ---- all steps
 
@@ -145,8 +148,8 @@ reaches d bodies = by-records (O32 d) bodies (λ at n st l q. Held at n st → R
     (λ at n st h. record { long = omega (arith, held-place at n st h); numbers = tt; fits = h .fits }) pass stop join
   where
     named : (st : State) (k r j : ℕ) → Stops (O32 d) bodies st k r j → j ≤ st .count + 1
-    named st k r j (by-step e) = subst (Grows st (kindOf k)) e (grows d st (kindOf k) (kind-sound k))
-    named st k r j (by-limits p st′ e) = subst (Grows st (kindOf k)) e (grows d st (kindOf k) (kind-sound k)) .number
+    named st k r j (by-step e) = step-grows d st k e
+    named st k r j (by-limits p st′ e) = step-grows d st k e .number
 
     pass : (b at n : ℕ) (st : State) (l : List ℕ) (q : Plan State) → (Held (suc at) n st → Reaches (suc at + length l) q) → Held at (suc n) st → Reaches (at + length (b ∷ l)) q
     pass b at n st l q w h = subst (λ (m : ℕ). Reaches m q) (omega arith) (w (record { before = omega (arith, h .before); fits = h .fits; few = h .few }))
@@ -158,7 +161,7 @@ reaches d bodies = by-records (O32 d) bodies (λ at n st l q. Held at n st → R
         → behind bodies (p .kind .size) ≤ length l → (q : Plan State) → (Held (suc at) (behind bodies (p .kind .size)) st′ → Reaches (suc at + length l) q)
         → Held at 0 st → Reaches (at + length (k ∷ l)) (also (O32 d .placedAt k j p) q)
     join at st k l j p st′ e f i q w h =
-        let g : Grown st (kindOf k) j p st′ = subst (Grows st (kindOf k)) e (grows d st (kindOf k) (kind-sound k)) in
+        let g : Grown st (kindOf k) j p st′ = step-grows d st k e in
         let v : Held (suc at) (behind bodies (p .kind .size)) st′ = held-on h g (leb-true (st′ .end) 1024 f) (suc at) (behind bodies (p .kind .size)) (omega (arith, g .size, behind-le bodies (p .kind .size))) in
         also-reaches (suc at + length l) (at + length (k ∷ l)) (O32 d .placedAt k j p) q (omega arith) (omega (arith, g .number, h .few)) (w v)
 

@@ -13,9 +13,8 @@ use Rattle.o32.specs.declared.State.{State}
 use Rattle.o32.specs.declared.Placement.{Placement}
 use Rattle.o32.specs.Kinds.{kindOf}
 use Rattle.o32.specs.O32.{O32, full, argument, onward, placement}
-use Rattle.placement.proofs.KindFacts.{kind-sound}
 use Rattle.placement.proofs.Steps.{Stepped, step-says}
-use Rattle.placement.proofs.Bounds.{Grown, Grows, grows}
+use Rattle.placement.proofs.Bounds.{Grown, step-grows}
 use Rattle.records.specs.declared.Record.the-variants as R
 use Rattle.records.specs.Records.{recordOf}
 
@@ -29,7 +28,7 @@ pub record Placing (d : Device) (bodies : Bool) (left : ℕ) (st : State) (k : �
 -- and so it has room for its bytes
 pub grown : {d : Device} {bodies : Bool} {left : ℕ} {st : State} {k : ℕ} → Placing d bodies left st k
     → Grown st (kindOf k) (argument st (kindOf k)) (placement d st (kindOf k)) (onward st (kindOf k))
-grown {d = d} {st = st} {k = k} w = subst (Grows st (kindOf k)) (w .step) (grows d st (kindOf k) (kind-sound k))
+grown {d = d} {st = st} {k = k} w = step-grows d st k (w .step)
 
 abbrev Limits : Step Placement State → Step Placement State → Type 0
 Limits s (refuse r j) = Unit {0}
