@@ -16,8 +16,7 @@ use Rattle.o32.specs.declared.State.{State}
 use Rattle.o32.specs.O32.{O32, area}
 use Rattle.placement.specs.Numbering.{Names}
 use Rattle.placement.proofs.Numbering.{write-names, read-names}
-use Rattle.answers.specs.Answers.{within}
-use Rattle.call.specs.Answers.{readWith, writeInto, readInto}
+use Rattle.answers.specs.Answers.{within, readWith, writeInto, readInto}
 
 module _ (d : Device) (r place j : ℕ) where
   -- 6 and 7
@@ -28,7 +27,7 @@ module _ (d : Device) (r place j : ℕ) where
       let c : 0 ≡ j = cc in
       inr (rw (← a) h, omega arith, omega arith)
 
-  pub write-reports : (list : List ℕ) (room : ℕ) → writeInto d list room ≡ C.refused r place j → Names d true list r place j
+  pub write-reports : (list : List ℕ) (room : ℕ) → writeInto (O32 d) list room ≡ C.refused r place j → Names d true list r place j
   write-reports list room e = go (write (O32 d) list) refl e
     where
       go : (a : C.Answer) → write (O32 d) list ≡ a → within 7 room a ≡ C.refused r place j → Names d true list r place j
@@ -39,13 +38,13 @@ module _ (d : Device) (r place j : ℕ) where
           tests true h = of-none true list 7 (inr refl) h
           tests false h = let z : _≡_ {A = ℕ} 0 1 = cc in absurd (omega arith)
 
-  pub read-reports : (sig img : List ℕ) (room : ℕ) → readInto d sig img room ≡ C.refused r place j → Names d false sig r place j
+  pub read-reports : (sig img : List ℕ) (room : ℕ) → readInto (O32 d) sig img room ≡ C.refused r place j → Names d false sig r place j
   read-reports sig img room e = go (plan (O32 d) false sig) refl e
     where
       same : read (O32 d) sig img ≡ C.refused r place j → Names d false sig r place j
       same h = elim (read-names d sig img r place j h) [ inl w ↦ inl w | inr six ↦ of-none false sig 6 (inl refl) six ]
 
-      go : (q : Plan State) → plan (O32 d) false sig ≡ q → readWith img room q ≡ C.refused r place j → Names d false sig r place j
+      go : (q : Plan State) → plan (O32 d) false sig ≡ q → readWith (O32 d) img room q ≡ C.refused r place j → Names d false sig r place j
       go (bad r′ place′ j′) f g = same (rw f g)
       go (good L st) f g = tests (eqb (length img) (32 + area (st .end))) (ltb room (length (C.reading L img))) refl g
         where

@@ -12,14 +12,13 @@ use borrow.Author.Tests.{eq-eqb, ne-eqb, lt-ltb, le-ltb, ltb-true, ltb-false}
 use Rattle.words.specs.Words.{body, proper}
 use Rattle.device.specs.declared.Device.{Device}
 use Rattle.carried.specs.Image as C
-use Rattle.carried.specs.Image.{gather, Placed, reading}
+use Rattle.carried.specs.Image.{gather, Placed, reading, listLength}
 use Rattle.carried.specs.Convention.{Plan, bad, good, plan, readUnder, read}
 use Rattle.carried.proofs.Readings.{length-body, fits-carriers, Passed, checked-passes}
 use Rattle.carried.proofs.Walks.{Walk, end, one, walk-of, sized-at}
 use Rattle.o32.specs.declared.State.{State}
 use Rattle.o32.specs.O32.{O32, area}
 use Rattle.placement.proofs.Laws.{O32-laws}
-use Rattle.records.specs.Records.{listLength}
 use Rattle.measure.specs.declared.Measured.{Measured}
 use Rattle.measure.specs.declared.Measured.the-variants as M
 use Rattle.measure.specs.Measured.{measured}
@@ -27,8 +26,7 @@ use Rattle.reader.specs.declared.Checked.{Checked}
 use Rattle.reader.specs.declared.Checked.the-variants as K
 use Rattle.reader.specs.Reading.{firstImproper, improperIn, readingIn, delivered, Readable}
 use Rattle.answers.specs.declared.Answer.{Answer}
-use Rattle.answers.specs.Answers.{answerOf, bufferOf}
-use Rattle.call.specs.Answers.{readInto, readWith}
+use Rattle.answers.specs.Answers.{answerOf, bufferOf, readInto, readWith}
 
 -- the length of a reading is that of its records
 reading-length : (d : Device) {st last : State} {ks : List ℕ} {L : List Placed} → Walk (O32 d) (O32-laws d) st ks L last → (img : List ℕ) → length (reading L img) ≡ listLength L
@@ -77,8 +75,8 @@ done-answer : (n : ℕ) (x : List ℕ) (a : C.Answer) → n ≡ length x → a �
 done-answer n x a e g = rw (g, e) refl
 
 pub record Right (d : Device) (sig img out : List ℕ) (a : Answer) (o : List ℕ) : Type 0 where
-  pub answer : a ≡ answerOf (readInto d sig img (length out))
-  pub buffer : o ≡ bufferOf (readInto d sig img (length out)) out
+  pub answer : a ≡ answerOf (readInto (O32 d) sig img (length out))
+  pub buffer : o ≡ bufferOf (readInto (O32 d) sig img (length out)) out
 
 module _ (d : Device) (sig img out : List ℕ) where
   pub read-refused : (m : Measured) (r p j : ℕ) (a : Answer) → m ≡ measured (plan (O32 d) false sig) → m ≡ M.Refused r p j → a ≡ record { refusal = r; place = p; argument = j; length = 0 } → Right d sig img out a out
@@ -141,7 +139,7 @@ module _ (d : Device) (sig img out : List ℕ) where
           let c : C.checked 0 (w .placed) img (C.done (reading (w .placed) img)) ≡ C.done (reading (w .placed) img) =
           rw j at (judged-by (w .placed) img (C.done (reading (w .placed) img)) q (i ∙ rw (w .planned))) in
           record {
-            answer = done-answer n (reading (w .placed) img) (readInto d sig img (length out)) (v .long) (rw (w .planned, same-length, enough, c));
+            answer = done-answer n (reading (w .placed) img) (readInto (O32 d) sig img (length out)) (v .long) (rw (w .planned, same-length, enough, c));
             buffer = l ∙ ap left (sym i ∙ j) ∙ rw (w .planned, same-length, enough, c);
           }
 
@@ -151,10 +149,10 @@ module _ (d : Device) (sig img out : List ℕ) where
 passes : (L : List Placed) (img : List ℕ) (at : ℕ) (y x : List ℕ) → C.checked at L img (C.done y) ≡ C.done x → y ≡ x
 passes L img at y x e = subst (λ (a : C.Answer). Passed L img a y) e (checked-passes L img y at) .1
 
-pub read-is : (d : Device) (sig img x : List ℕ) (room : ℕ) → (readInto d sig img room ≡ C.done x) ↔ ((read (O32 d) sig img ≡ C.done x) × (length x ≤ room))
+pub read-is : (d : Device) (sig img x : List ℕ) (room : ℕ) → (readInto (O32 d) sig img room ≡ C.done x) ↔ ((read (O32 d) sig img ≡ C.done x) × (length x ≤ room))
 read-is d sig img x room = go (plan (O32 d) false sig)
   where
-    go : (q : Plan State) → (readWith img room q ≡ C.done x) ↔ ((readUnder (O32 d) img q ≡ C.done x) × (length x ≤ room))
+    go : (q : Plan State) → (readWith (O32 d) img room q ≡ C.done x) ↔ ((readUnder (O32 d) img q ≡ C.done x) × (length x ≤ room))
     go (bad r at j) = ((λ e. let z : _≡_ {A = ℕ} 0 1 = cc in absurd (omega arith)), λ h. h .0)
     go (good L st) = tests (eqb (length img) (32 + area (st .end))) (ltb room (length (reading L img))) refl
       where

@@ -23,8 +23,7 @@ use Rattle.measure.specs.declared.Measured.the-variants as M
 use Rattle.measure.specs.Measured.{measured}
 use Rattle.answers.specs.declared.Answer.{Answer}
 use Rattle.writer.specs.Filling.{Fillable, imageIn}
-use Rattle.answers.specs.Answers.{answerOf, bufferOf, within}
-use Rattle.call.specs.Answers.{writeInto}
+use Rattle.answers.specs.Answers.{answerOf, bufferOf, within, writeInto}
 
 -- the first pass has found an image's length
 pub fillable : (d : Device) (list : List ℕ) (long end n : ℕ) → M.Accepted long end ≡ measured (plan (O32 d) true list) → n ≡ 32 + area end → Fillable d list n
@@ -47,8 +46,8 @@ end-in-bounds d bodies list long end e = go (plan (O32 d) bodies list) refl e
         omega (arith, leb-true (st .end) 1024 w)
 
 pub record Right (d : Device) (list out : List ℕ) (r : Answer) (o : List ℕ) : Type 0 where
-  pub answer : r ≡ answerOf (writeInto d list (length out))
-  pub buffer : o ≡ bufferOf (writeInto d list (length out)) out
+  pub answer : r ≡ answerOf (writeInto (O32 d) list (length out))
+  pub buffer : o ≡ bufferOf (writeInto (O32 d) list (length out)) out
 
 module _ (d : Device) (list out : List ℕ) where
   pub write-refused : (m : Measured) (r p j : ℕ) (a : Answer) → m ≡ measured (plan (O32 d) true list) → m ≡ M.Refused r p j → a ≡ record { refusal = r; place = p; argument = j; length = 0 } → Right d list out a out
@@ -77,7 +76,7 @@ module _ (d : Device) (list out : List ℕ) where
 
 -- ---- the writer with a buffer gives an image exactly where the theorem's writer gives it and it fits
 
-pub written-is : (d : Device) (list x : List ℕ) (room : ℕ) → (writeInto d list room ≡ C.done x) ↔ ((write (O32 d) list ≡ C.done x) × (length x ≤ room))
+pub written-is : (d : Device) (list x : List ℕ) (room : ℕ) → (writeInto (O32 d) list room ≡ C.done x) ↔ ((write (O32 d) list ≡ C.done x) × (length x ≤ room))
 written-is d list x room = (there (write (O32 d) list), λ h. rw (h .0, le-ltb room (length x) (h .1)))
   where
     there : (a : C.Answer) → within 7 room a ≡ C.done x → (a ≡ C.done x) × (length x ≤ room)

@@ -2,9 +2,8 @@
 ghost use mathlib.Core.Path.{_≡_};
 ghost use Prim.Native.Nat.{_+_, _≤_, ℕ};
 ghost use lib.ListN.{length};
-ghost use Rattle.o32.specs.O32.{area};
-ghost use Rattle.answers.specs.Answers.{answerOf, bufferOf};
-ghost use Rattle.call.specs.Answers.{readInto, writeInto};
+ghost use Rattle.o32.specs.O32.{O32, area};
+ghost use Rattle.answers.specs.Answers.{answerOf, bufferOf, readInto, writeInto};
 use answers::Answer;
 use device::Device;
 use measure::Measured;
@@ -37,8 +36,8 @@ fn image_length(end: usize) -> usize
 
 // The call image of a list for a device. Refusals 1 to 5 by record, then 7; no byte is stored before all are decided.
 pub fn write(device: Device, list: &[u8], out: &mut [u8]) -> Answer
-    ensures answer { λ r. ⌜ r ≡ answerOf (writeInto device (now (list .entry)) (length (now (out .entry)))) ⌝ }
-    ensures buffer { λ _. ⌜ now (out .exit) ≡ bufferOf (writeInto device (now (list .entry)) (length (now (out .entry)))) (now (out .entry)) ⌝ }
+    ensures answer { λ r. ⌜ r ≡ answerOf (writeInto (O32 device) (now (list .entry)) (length (now (out .entry)))) ⌝ }
+    ensures buffer { λ _. ⌜ now (out .exit) ≡ bufferOf (writeInto (O32 device) (now (list .entry)) (length (now (out .entry)))) (now (out .entry)) ⌝ }
 {
     let found = measure::measure_list(list);
     let Measured::Accepted { length: _, end } = found else {
@@ -65,8 +64,8 @@ fn improper(found: Checked) -> Answer
 // The list of an image under a signature, for a device. Refusals 1, 2, 3 and 5 by record, then 6, 7, 8; no byte is stored before
 // all are decided.
 pub fn read(device: Device, signature: &[u8], image: &[u8], out: &mut [u8]) -> Answer
-    ensures answer { λ r. ⌜ r ≡ answerOf (readInto device (now (signature .entry)) (now (image .entry)) (length (now (out .entry)))) ⌝ }
-    ensures buffer { λ _. ⌜ now (out .exit) ≡ bufferOf (readInto device (now (signature .entry)) (now (image .entry)) (length (now (out .entry)))) (now (out .entry)) ⌝ }
+    ensures answer { λ r. ⌜ r ≡ answerOf (readInto (O32 device) (now (signature .entry)) (now (image .entry)) (length (now (out .entry)))) ⌝ }
+    ensures buffer { λ _. ⌜ now (out .exit) ≡ bufferOf (readInto (O32 device) (now (signature .entry)) (now (image .entry)) (length (now (out .entry)))) (now (out .entry)) ⌝ }
 {
     let found = measure::measure_signature(signature);
     let Measured::Accepted { length: n, end } = found else {

@@ -22,8 +22,7 @@ use Rattle.o32.specs.O32.{O32, area}
 use Rattle.placement.proofs.Laws.{O32-laws}
 use Rattle.placement.proofs.Bounds.{Numbers, refusal-bound, plan-bound}
 use Rattle.answers.specs.declared.Answer.{Answer}
-use Rattle.answers.specs.Answers.{answerOf, bufferOf, within}
-use Rattle.call.specs.Answers.{readWith, writeInto, readInto}
+use Rattle.answers.specs.Answers.{answerOf, bufferOf, within, readWith, writeInto, readInto}
 use Rattle.saves.specs.declared.Request.{Request}
 use Rattle.saves.specs.Frame.{refusalOf, frameOf}
 use Rattle.saves.specs.Words.{prologueWords, epilogueWords, bytesOfWords}
@@ -69,8 +68,8 @@ write-bounded : (d : Device) (list : List ℕ) (q : Plan State) → plan (O32 d)
 write-bounded d list (bad r at j) e = refusal-bound d true list r at j e
 write-bounded d list (good L last) e = image-length (last .end) L list (plan-bound d true list L last e .fits)
 
-pub write-fits : {a : Answer} (d : Device) (list : List ℕ) (room : ℕ) → a ≡ answerOf (writeInto d list room) → Fits a
-write-fits d list room e = fits (writeInto d list room) (within-bounded 7 room (write (O32 d) list) (write-bounded d list (plan (O32 d) true list) refl)) e
+pub write-fits : {a : Answer} (d : Device) (list : List ℕ) (room : ℕ) → a ≡ answerOf (writeInto (O32 d) list room) → Fits a
+write-fits d list room e = fits (writeInto (O32 d) list room) (within-bounded 7 room (write (O32 d) list) (write-bounded d list (plan (O32 d) true list) refl)) e
 
 -- ---- the reader
 
@@ -90,7 +89,7 @@ reading-length : (d : Device) (sig img : List ℕ) (L : List Placed) (last : Sta
 reading-length d sig img L last e =
     plan-bound d true (reading L img) L last (plan-reading (O32 d) (O32-laws d) (walk-of (O32 d) (O32-laws d) sig (O32 d .start) L last 0 e) img 0) .long
 
-read-bounded : (d : Device) (sig img : List ℕ) (room : ℕ) (q : Plan State) → plan (O32 d) false sig ≡ q → Bounded (readWith img room q)
+read-bounded : (d : Device) (sig img : List ℕ) (room : ℕ) (q : Plan State) → plan (O32 d) false sig ≡ q → Bounded (readWith (O32 d) img room q)
 read-bounded d sig img room (bad r at j) e = refusal-bound d false sig r at j e
 read-bounded d sig img room (good L last) e = go (eqb (length img) (32 + area (last .end))) (ltb room (length (reading L img)))
   where
@@ -101,8 +100,8 @@ read-bounded d sig img room (good L last) e = go (eqb (length img) (32 + area (l
         checked-bounded L img 0 (C.done (reading L img)) (omega arith) (plan-bound d false sig L last e .numbers) l
     go false u = nowhere
 
-pub read-fits : {a : Answer} (d : Device) (sig img : List ℕ) (room : ℕ) → a ≡ answerOf (readInto d sig img room) → Fits a
-read-fits d sig img room e = fits (readInto d sig img room) (read-bounded d sig img room (plan (O32 d) false sig) refl) e
+pub read-fits : {a : Answer} (d : Device) (sig img : List ℕ) (room : ℕ) → a ≡ answerOf (readInto (O32 d) sig img room) → Fits a
+read-fits d sig img room e = fits (readInto (O32 d) sig img room) (read-bounded d sig img room (plan (O32 d) false sig) refl) e
 
 -- ---- the code of a frame
 

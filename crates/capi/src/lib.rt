@@ -2,8 +2,8 @@
 ghost use mathlib.Core.Path.{_≡_};
 ghost use Prim.Native.Nat.{_≤_};
 ghost use lib.ListN.{length};
-ghost use Rattle.answers.specs.Answers.{answerOf, bufferOf};
-ghost use Rattle.call.specs.Answers.{readInto, writeInto};
+ghost use Rattle.o32.specs.O32.{O32};
+ghost use Rattle.answers.specs.Answers.{answerOf, bufferOf, readInto, writeInto};
 ghost use Rattle.saves.specs.Frame.{layoutOf};
 ghost use Rattle.frame.specs.Code.{epilogueInto, prologueInto};
 ghost use Rattle.capi.specs.Numbers.{deviceOf, layoutNumbers, narrow, requestOf};
@@ -75,8 +75,8 @@ fn as_request(leaf: u32, locals: u32, outgoing: u32, general: u32, pairs: u32) -
 // The call image of a list for a device.
 #[no_mangle]
 pub extern "C" fn o32_write(device: u32, list: &[u8], image: &mut [u8]) -> O32Answer
-    ensures answer { λ r. ⌜ r ≡ narrow (answerOf (writeInto (deviceOf device) (now (list .entry)) (length (now (image .entry))))) ⌝ }
-    ensures buffer { λ _. ⌜ now (image .exit) ≡ bufferOf (writeInto (deviceOf device) (now (list .entry)) (length (now (image .entry)))) (now (image .entry)) ⌝ }
+    ensures answer { λ r. ⌜ r ≡ narrow (answerOf (writeInto (O32 (deviceOf device)) (now (list .entry)) (length (now (image .entry))))) ⌝ }
+    ensures buffer { λ _. ⌜ now (image .exit) ≡ bufferOf (writeInto (O32 (deviceOf device)) (now (list .entry)) (length (now (image .entry)))) (now (image .entry)) ⌝ }
 {
     let answer = call::write(as_device(device), list, image);
     narrowed(answer)
@@ -90,8 +90,8 @@ pub extern "C" fn o32_read(
     image: &[u8],
     list: &mut [u8],
 ) -> O32Answer
-    ensures answer { λ r. ⌜ r ≡ narrow (answerOf (readInto (deviceOf device) (now (signature .entry)) (now (image .entry)) (length (now (list .entry))))) ⌝ }
-    ensures buffer { λ _. ⌜ now (list .exit) ≡ bufferOf (readInto (deviceOf device) (now (signature .entry)) (now (image .entry)) (length (now (list .entry)))) (now (list .entry)) ⌝ }
+    ensures answer { λ r. ⌜ r ≡ narrow (answerOf (readInto (O32 (deviceOf device)) (now (signature .entry)) (now (image .entry)) (length (now (list .entry))))) ⌝ }
+    ensures buffer { λ _. ⌜ now (list .exit) ≡ bufferOf (readInto (O32 (deviceOf device)) (now (signature .entry)) (now (image .entry)) (length (now (list .entry)))) (now (list .entry)) ⌝ }
 {
     let answer = call::read(as_device(device), signature, image, list);
     narrowed(answer)

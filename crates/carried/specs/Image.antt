@@ -1,7 +1,7 @@
 -- What it means that bytes of an image carry arguments ("The image"). Nothing here belongs to one convention.
 use mathlib.Core.List.{List, [], _∷_, _++_}
 use mathlib.Core.Bool.{cond}
-use Prim.Native.Nat.{ℕ, suc}
+use Prim.Native.Nat.{ℕ, suc, _+_}
 use lib.ListN.{getD, set, take, drop, replicate}
 use Rattle.words.specs.Words.{Extension, promote, body, proper}
 
@@ -46,6 +46,11 @@ image n L l = put (replicate n 0) (carried L) (promotedBytes L l)
 abbrev pub reading : List Placed → List ℕ → List ℕ
 reading [] img = []
 reading (s ∷ L) img = s .kind ∷ (body (s .size) (gather img (s .carriers)) ++ reading L img)
+
+-- How many bytes these records are in a list: a kind byte and a body for each.
+abbrev pub listLength : List Placed → ℕ
+listLength [] = 0
+listLength (s ∷ L) = suc (s .size + listLength L)
 
 -- What the writer and the reader answer: the bytes, or the refusal's number, its place and the argument's number.
 pub data Answer : Type 0 where

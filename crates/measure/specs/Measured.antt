@@ -1,7 +1,7 @@
 -- What the contracts of the first walk cite beside the definitions: its enum, case by case.
+use Rattle.carried.specs.Image.{listLength}
 use Rattle.carried.specs.Convention.{Plan, bad, good}
 use Rattle.o32.specs.declared.State.{State}
-use Rattle.records.specs.Records.{listLength}
 use Rattle.measure.specs.declared.Measured.{Measured}
 use Rattle.measure.specs.declared.Measured.the-variants as M
 

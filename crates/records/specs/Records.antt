@@ -1,10 +1,8 @@
 -- What the contracts of the code on one record cite beside the definitions: its enum, case by case, and what it asks for.
 use mathlib.Core.Logic.{_⊎_}
 use mathlib.Core.Path.{_≡_}
-use mathlib.Core.List.{List, [], _∷_}
 use mathlib.Core.Bool.{false}
-use Prim.Native.Nat.{ℕ, suc, _+_, _≤_}
-use Rattle.carried.specs.Image.{Placed}
+use Prim.Native.Nat.{ℕ, _≤_}
 use Rattle.carried.specs.Convention.{Step, refuse, next}
 use Rattle.o32.specs.declared.Kind.{Kind}
 use Rattle.o32.specs.declared.State.{State}
@@ -28,8 +26,3 @@ pub record Ready (st : State) (k : Kind) : Type 0 where
   pub small : k .size ≤ 512
   pub fits : st .end ≤ 1024
   pub few : full st k ≡ false
-
--- How many bytes these records are in a list: a kind byte and a body for each.
-abbrev pub listLength : List Placed → ℕ
-listLength [] = 0
-listLength (s ∷ L) = suc (s .size + listLength L)

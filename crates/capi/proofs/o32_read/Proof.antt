@@ -2,7 +2,8 @@
 -- Assumes nothing.
 use lib.ListN.{length}
 use Rattle.device.specs.declared.Device.{Device}
-use Rattle.call.specs.Answers.{readInto}
+use Rattle.o32.specs.O32.{O32}
+use Rattle.answers.specs.Answers.{readInto}
 use Rattle.capi.proofs.Bounds.{read-fits, handed}
 use borrow.Author.Needs.{needs}
 use Rattle.capi.proofs.o32_read.Statement.{statement}
@@ -25,7 +26,7 @@ same-length c = search needs
 returns : tie.Need-returns
 returns c =
     let s = c .before .before .before .before .before .before .before .before .before .args in
-    handed (λ (d : Device). readInto d (s .signature .now) (s .image .now) (length (s .list .now))) (s .list .now) (c .before .before .before .before .before .as-device .ensures) (c .narrowed .ensures) (c .before .before .before .read .ensures .0) (c .before .before .before .read .ensures .1)
+    handed (λ (d : Device). readInto (O32 d) (s .signature .now) (s .image .now) (length (s .list .now))) (s .list .now) (c .before .before .before .before .before .as-device .ensures) (c .narrowed .ensures) (c .before .before .before .read .ensures .0) (c .before .before .before .read .ensures .1)
 
 pub o32-read-spec : {M : Type 1} → statement M
 o32-read-spec = tie.close (tie.spec as-device-requires read-requires narrowed-requires same-length returns)

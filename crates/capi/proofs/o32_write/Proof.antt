@@ -2,7 +2,8 @@
 -- Assumes nothing.
 use lib.ListN.{length}
 use Rattle.device.specs.declared.Device.{Device}
-use Rattle.call.specs.Answers.{writeInto}
+use Rattle.o32.specs.O32.{O32}
+use Rattle.answers.specs.Answers.{writeInto}
 use Rattle.capi.proofs.Bounds.{write-fits, handed}
 use borrow.Author.Needs.{needs}
 use Rattle.capi.proofs.o32_write.Statement.{statement}
@@ -25,7 +26,7 @@ same-length c = search needs
 returns : tie.Need-returns
 returns c =
     let s = c .before .before .before .before .before .before .before .before .args in
-    handed (λ (d : Device). writeInto d (s .list .now) (length (s .image .now))) (s .image .now) (c .before .before .before .before .before .as-device .ensures) (c .narrowed .ensures) (c .before .before .before .write .ensures .0) (c .before .before .before .write .ensures .1)
+    handed (λ (d : Device). writeInto (O32 d) (s .list .now) (length (s .image .now))) (s .image .now) (c .before .before .before .before .before .as-device .ensures) (c .narrowed .ensures) (c .before .before .before .write .ensures .0) (c .before .before .before .write .ensures .1)
 
 pub o32-write-spec : {M : Type 1} → statement M
 o32-write-spec = tie.close (tie.spec as-device-requires write-requires narrowed-requires same-length returns)

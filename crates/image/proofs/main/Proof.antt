@@ -14,8 +14,7 @@ use Rattle.device.specs.declared.Device.the-variants.{Fpu}
 use Rattle.carried.specs.Image as C
 use Rattle.o32.specs.O32.{O32}
 use Rattle.answers.specs.declared.Answer.{Answer}
-use Rattle.answers.specs.Answers.{answerOf, within}
-use Rattle.call.specs.Answers.{writeInto}
+use Rattle.answers.specs.Answers.{answerOf, within, writeInto}
 use borrow.Author.Needs.{needs}
 use Rattle.image.proofs.main.Statement.{statement}
 use Rattle.image.proofs.main.Tie as tie
@@ -30,10 +29,10 @@ within-room : (room : ℕ) (found : C.Answer) → answerOf (within 7 room found)
 within-room room (C.refused number place argument) = omega arith
 within-room room (C.done image) = by-test (ltb room (length image)) room image (ltb-false room (length image))
 
-written : (room : ℕ) (list : List ℕ) → answerOf (writeInto Fpu list room) .length ≤ room
+written : (room : ℕ) (list : List ℕ) → answerOf (writeInto (O32 Fpu) list room) .length ≤ room
 written room list = within-room room (write (O32 Fpu) list)
 
-answered-within : (list : List ℕ) {answer : Answer} {room left : ℕ} → answer ≡ answerOf (writeInto Fpu list room) → left ≡ room → answer .length ≤ left
+answered-within : (list : List ℕ) {answer : Answer} {room left : ℕ} → answer ≡ answerOf (writeInto (O32 Fpu) list room) → left ≡ room → answer .length ≤ left
 answered-within list {answer} {room} e kept = omega (arith, written room list, ap (λ (a : Answer). a .length) e)
 
 -- Where the writer has answered: its length lies within the buffer that it left.
