@@ -142,33 +142,3 @@ module _ (d : Device) (sig img out : List ℕ) where
             answer = done-answer n (reading (w .placed) img) (readInto (O32 d) sig img (length out)) (v .long) (rw (w .planned, same-length, enough, c));
             buffer = l ∙ ap left (sym i ∙ j) ∙ rw (w .planned, same-length, enough, c);
           }
-
--- ---- the reader with a buffer gives a list exactly where the theorem's reader gives it and it fits
-
--- what refusal 8 lets pass is the answer itself
-passes : (L : List Placed) (img : List ℕ) (at : ℕ) (y x : List ℕ) → C.checked at L img (C.done y) ≡ C.done x → y ≡ x
-passes L img at y x e = subst (λ (a : C.Answer). Passed L img a y) e (checked-passes L img y at) .1
-
-pub read-is : (d : Device) (sig img x : List ℕ) (room : ℕ) → (readInto (O32 d) sig img room ≡ C.done x) ↔ ((read (O32 d) sig img ≡ C.done x) × (length x ≤ room))
-read-is d sig img x room = go (plan (O32 d) false sig)
-  where
-    go : (q : Plan State) → (readWith (O32 d) img room q ≡ C.done x) ↔ ((readUnder (O32 d) img q ≡ C.done x) × (length x ≤ room))
-    go (bad r at j) = ((λ e. let z : _≡_ {A = ℕ} 0 1 = cc in absurd (omega arith)), λ h. h .0)
-    go (good L st) = tests (eqb (length img) (32 + area (st .end))) (ltb room (length (reading L img))) refl
-      where
-        tests : (t u : Bool) → ltb room (length (reading L img)) ≡ u
-            → (cond t (cond u (C.refused 7 0 0) (C.checked 0 L img (C.done (reading L img)))) (C.refused 6 0 0) ≡ C.done x)
-            ↔ ((cond t (C.checked 0 L img (C.done (reading L img))) (C.refused 6 0 0) ≡ C.done x) × (length x ≤ room))
-        tests false u f = ((λ e. let z : _≡_ {A = ℕ} 0 1 = cc in absurd (omega arith)), λ h. h .0)
-        tests true true f = (
-          (λ e. let z : _≡_ {A = ℕ} 0 1 = cc in absurd (omega arith)),
-          λ h.
-              let i : reading L img ≡ x = passes L img 0 (reading L img) x (h .0) in
-              absurd (omega (arith, ltb-true room (length (reading L img)) f, ap length i, h .1)),
-        )
-        tests true false f = (
-          (λ e.
-              let i : reading L img ≡ x = passes L img 0 (reading L img) x e in
-              (e, omega (arith, ltb-false room (length (reading L img)) f, ap length i))),
-          λ h. h .0,
-        )

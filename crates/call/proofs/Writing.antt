@@ -73,16 +73,3 @@ module _ (d : Device) (list out : List ℕ) where
       answer = rw (f .planned, ← (f .whole), long, le-ltb (length out) n h, long);
       buffer = e ∙ rw (f .planned, ← (f .whole), long, le-ltb (length out) n h, long);
     }
-
--- ---- the writer with a buffer gives an image exactly where the theorem's writer gives it and it fits
-
-pub written-is : (d : Device) (list x : List ℕ) (room : ℕ) → (writeInto (O32 d) list room ≡ C.done x) ↔ ((write (O32 d) list ≡ C.done x) × (length x ≤ room))
-written-is d list x room = (there (write (O32 d) list), λ h. rw (h .0, le-ltb room (length x) (h .1)))
-  where
-    there : (a : C.Answer) → within 7 room a ≡ C.done x → (a ≡ C.done x) × (length x ≤ room)
-    there (C.refused r at j) e = let z : _≡_ {A = ℕ} 0 1 = cc in absurd (omega arith)
-    there (C.done y) e = go (ltb room (length y)) refl e
-      where
-        go : (t : Bool) → ltb room (length y) ≡ t → cond t (C.refused 7 0 0) (C.done y) ≡ C.done x → (C.done y ≡ C.done x) × (length x ≤ room)
-        go true f e = let z : _≡_ {A = ℕ} 0 1 = cc in absurd (omega arith)
-        go false f e = let g : y ≡ x = cc in (e, rw (← g) (ltb-false room (length y) f))

@@ -10,7 +10,7 @@ use lib.ListN.{length, getD, replicate, length-append, length-drop, length-repli
 use lib.Seq.{take-at, drop-at}
 use Rattle.words.specs.Words.{promote, front, body, proper}
 use Rattle.words.proofs.Bytes.{same→eq}
-use Rattle.carried.specs.Image.{Placed, gather, put, carried, promotedBytes, image, reading, Answer, done, refused, checked}
+use Rattle.carried.specs.Image.{Placed, gather, put, carried, promotedBytes, image, reading, listLength, Answer, done, refused, checked}
 use Rattle.carried.specs.Demand.{In, Sized, OneEach, AllProper, Accepted}
 use Rattle.carried.proofs.Places.{length-gather, gather-append, length-put, getD-put-other, gather-put, gather-agree, agree-gather, in-left, in-right}
 
@@ -33,6 +33,13 @@ fits-carriers s h =
     let b : List ℕ = replicate (s .size) 0 in
     let e : length b ≡ s .size = length-replicate (s .size) 0 in
     omega (arith, h b e, length-append (front (s .extension) b) b)
+
+-- a reading has the length of its records
+pub reading-length : (L : List Placed) (img : List ℕ) → Sized L → length (reading L img) ≡ listLength L
+reading-length [] img z = refl
+reading-length (s ∷ L) img z =
+    let b : List ℕ = body (s .size) (bytesIn s img) in
+    omega (arith, length-append b (reading L img), length-body s img (fits-carriers s (z .0)), reading-length L img (z .1))
 
 -- an accepted image holds the promotion of the body in it
 promotion-of : (s : Placed) (img : List ℕ) → isProper s img ≡ true → promote (s .extension) (body (s .size) (bytesIn s img)) ≡ bytesIn s img

@@ -1,0 +1,134 @@
+-- The carried-bytes theorem, of what the reader and the writer of a convention answer and leave in buffers that are long enough.
+-- Assumes nothing.
+use mathlib.Core.Path.{_≡_, refl, sym, ap, _∙_}
+use mathlib.Core.Logic.{_⊎_, inl, inr, _↔_}
+use mathlib.Core.List.{List, []}
+use mathlib.Core.Bool.{false}
+use Prim.Native.Nat.{ℕ, _≤_}
+use native.Mathlib.Omega.{arith}
+use lib.ListN.{length, getD}
+use Rattle.carried.specs.Image as C
+use Rattle.carried.specs.Image.{Placed, carried, image, reading, listLength}
+use Rattle.carried.specs.Convention.{Convention, Plan, bad, good, plan, write, read}
+use Rattle.carried.specs.Demand.{In, Carried, Accepted, Rewriting, RoundTrip}
+use Rattle.carried.proofs.Walks.{Laws, Walk, walk-of, plan-reading}
+use Rattle.carried.proofs.Theorem.{theorem}
+use Rattle.carried.proofs.RoundTrip.{round-trip}
+use Rattle.carried.proofs.Readings.{reading-length}
+use Rattle.answers.specs.Answers.{readWith, readInto, writeInto, answerOf}
+use Rattle.answers.specs.Demand.{functionsOf, output, PastSignature, AcceptedSignature, Lent, Accepts, readingOf, rewritingOf, Agree, Rewritings}
+use Rattle.answers.proofs.Buffers.{written-is, read-is, output-done, accepted-done, past-signature, read-numbered}
+
+done-inj : {x y : List ℕ} → C.done x ≡ C.done y → x ≡ y
+done-inj e = cc
+
+-- the refusals of a signature are none of those that come after
+abbrev pub Early : Convention → Type 0
+Early c = (sig : List ℕ) (r at j : ℕ) → plan c false sig ≡ bad r at j → PastSignature r → ⊥
+
+module _ (c : Convention) (laws : Laws c) (early : Early c) (sig : List ℕ) where
+  -- ---- which signatures are accepted
+
+  pub record Planned : Type 0 where
+    pub placed : List Placed
+    pub last : c .State
+    pub planned : plan c false sig ≡ good placed last
+
+  pub planned-of : (img out : List ℕ) → PastSignature (functionsOf c .read sig img out .refusal) → Planned
+  planned-of img out h = go (plan c false sig) refl h
+    where
+      go : (q : Plan (c .State)) → plan c false sig ≡ q → PastSignature (answerOf (readWith c img (length out) q) .refusal) → Planned
+      go (bad r at j) e g = absurd (early sig r at j e g)
+      go (good L st) e g = record { placed = L; last = st; planned = e }
+
+  pub accepted-of : Planned → AcceptedSignature (functionsOf c) sig
+  accepted-of s img out = rw (s .planned) (past-signature c img (length out) (s .placed) (s .last))
+
+  -- ---- at one that is
+
+  module _ (s : Planned) where
+    abbrev L : List Placed
+    L = s .placed
+
+    abbrev n : ℕ
+    n = c .imageLength (s .last)
+
+    abbrev m : ℕ
+    m = listLength L
+
+    the : Carried c sig L n
+    the = theorem c laws sig L (s .last) (s .planned)
+
+    the-walk : Walk c laws (c .start) sig L (s .last)
+    the-walk = walk-of c laws sig (c .start) L (s .last) 0 (s .planned)
+
+    numbered : (r at j : ℕ) → plan c false sig ≡ bad r at j → 1 ≤ r
+    numbered r at j e = let z : _≡_ {A = ℕ} 0 1 = cc (s .planned) in absurd (omega arith)
+
+    read-long : (a x : List ℕ) → read c sig a ≡ C.done x → length x ≡ m
+    read-long a x e = ap length (done-inj (sym e ∙ the .accepts a (the .accepted a x e))) ∙ reading-length L a (the .one-each .sized)
+
+    -- an image that is accepted is one that the theorem's reader reads, and as what the buffer then has
+    pub reads : (u : Lent m n) (a : List ℕ) → Accepts (functionsOf c) sig u a → read c sig a ≡ C.done (readingOf (functionsOf c) sig u a)
+    reads u a h =
+        read-is c sig a (readingOf (functionsOf c) sig u a) (length (u .list)) .0
+        (accepted-done (u .list) (readInto c sig a (length (u .list))) (read-numbered c a (length (u .list)) (plan c false sig) numbered) h) .0
+
+    pub is-read : (u : Lent m n) (a x : List ℕ) → read c sig a ≡ C.done x → Accepts (functionsOf c) sig u a × (readingOf (functionsOf c) sig u a ≡ x)
+    is-read u a x e =
+        output-done x (u .list) (readInto c sig a (length (u .list))) (read-is c sig a x (length (u .list)) .1 (e, omega (arith, read-long a x e, u .list-long)))
+
+    again : (u : Lent m n) (a : List ℕ) → Accepts (functionsOf c) sig u a → Rewriting c sig L n a (readingOf (functionsOf c) sig u a)
+    again u a h = the .rewrites a (readingOf (functionsOf c) sig u a) (reads u a h)
+
+    is-written : (u : Lent m n) (list r : List ℕ) → write c list ≡ C.done r → length r ≡ n
+        → (functionsOf c .write list (u .image) .refusal ≡ 0) × (output (functionsOf c .write list (u .image)) ≡ r)
+    is-written u list r e l =
+        output-done r (u .image) (writeInto c list (length (u .image))) (written-is c list r (length (u .image)) .1 (e, omega (arith, l, u .image-long)))
+
+    -- the rewriting is that of the theorem
+    rewritten : (u : Lent m n) (a : List ℕ) (h : Accepts (functionsOf c) sig u a)
+        → (functionsOf c .write (readingOf (functionsOf c) sig u a) (u .image) .refusal ≡ 0) × (rewritingOf (functionsOf c) sig u a ≡ again u a h .rewriting)
+    rewritten u a h = is-written u (readingOf (functionsOf c) sig u a) (again u a h .rewriting) (again u a h .written) (again u a h .whole)
+
+    written-as : (u : Lent m n) (a : List ℕ) (h : Accepts (functionsOf c) sig u a) → write c (readingOf (functionsOf c) sig u a) ≡ C.done (rewritingOf (functionsOf c) sig u a)
+    written-as u a h = again u a h .written ∙ ap C.done (sym (rewritten u a h .1))
+
+    long : (u : Lent m n) (a : List ℕ) (h : Accepts (functionsOf c) sig u a) → length (rewritingOf (functionsOf c) sig u a) ≡ n
+    long u a h = ap length (rewritten u a h .1) ∙ again u a h .whole
+
+    read-again : (u v : Lent m n) (a : List ℕ) (h : Accepts (functionsOf c) sig u a)
+        → Accepts (functionsOf c) sig v (rewritingOf (functionsOf c) sig u a) × (readingOf (functionsOf c) sig v (rewritingOf (functionsOf c) sig u a) ≡ readingOf (functionsOf c) sig u a)
+    read-again u v a h =
+        is-read v (rewritingOf (functionsOf c) sig u a) (readingOf (functionsOf c) sig u a) (ap (read c sig) (rewritten u a h .1) ∙ again u a h .reads)
+
+    -- what the writer gives for the reading of no image at all
+    something : (u : Lent m n) → (a : List ℕ) × Accepts (functionsOf c) sig u a
+    something u =
+        let list : List ℕ = reading L [] in
+        let a : List ℕ = image n L list in
+        let w : RoundTrip c list L (s .last) = round-trip c laws list L (s .last) (plan-reading c laws the-walk [] 0) in
+        (a, is-read u a (reading L a) (the .accepts a (w .accepted)) .0)
+
+    pub rewritings : Rewritings (functionsOf c) sig m n (λ p. In p (carried L))
+    rewritings = record {
+      some = something;
+      alike = λ u v a h. let w = is-read v a (readingOf (functionsOf c) sig u a) (reads u a h) in (w .0, sym (w .1));
+      read-same = λ u v a b h k. the .read-same a b (readingOf (functionsOf c) sig u a) (readingOf (functionsOf c) sig v b) (reads u a h) (reads v b k);
+      rewrites = λ u a h. rewritten u a h .0;
+      whole = long;
+      keeps = λ u a h. rw (rewritten u a h .1) (again u a h .keeps);
+      clears = λ u a h. rw (rewritten u a h .1) (again u a h .clears);
+      accepted-again = λ u v a h. read-again u v a h .0;
+      reads-again = λ u v a h. read-again u v a h .1;
+      fixed = λ u v a h.
+          is-written v (readingOf (functionsOf c) sig v (rewritingOf (functionsOf c) sig u a)) (rewritingOf (functionsOf c) sig u a)
+          (ap (write c) (read-again u v a h .1) ∙ written-as u a h) (long u a h) .1;
+      same-rewriting = λ u v a b h k.
+          the .same-rewriting a b (readingOf (functionsOf c) sig u a) (readingOf (functionsOf c) sig v b) (rewritingOf (functionsOf c) sig u a) (rewritingOf (functionsOf c) sig v b)
+          (reads u a h) (reads v b k) (written-as u a h) (written-as v b k);
+    }
+
+    -- an accepted image has the signature's length and no improper promotion, and every such image is accepted
+    pub accepts-exactly : (u : Lent m n) (a : List ℕ) → Accepts (functionsOf c) sig u a ↔ Accepted n L a
+    accepts-exactly u a = ((λ h. the .accepted a (readingOf (functionsOf c) sig u a) (reads u a h)), λ h. is-read u a (reading L a) (the .accepts a h) .0)
