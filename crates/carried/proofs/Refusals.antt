@@ -1,50 +1,50 @@
--- Where a refusal by record stands, in every convention: what is before its place is accepted, and the argument that it names is the
--- one that the step reports of the kind byte there, in the state behind what is before.
+-- Where a record is refused, in every convention: exactly at the place where what is before is accepted and the step and the limits
+-- refuse the kind byte there, in the state behind what is before. And refusal 8: exactly at the first record that is improper.
 -- Assumes nothing.
-use mathlib.Core.Path.{_≡_, refl, subst}
-use mathlib.Core.Logic.{_⊎_, inl, inr}
-use mathlib.Core.List.{List, [], _∷_}
+use mathlib.Core.Path.{_≡_, refl, sym, ap, _∙_, subst}
+use mathlib.Core.Logic.{_↔_}
+use mathlib.Core.List.{List, [], _∷_, _++_}
 use mathlib.Core.Bool.{Bool, true, false, cond}
-use Prim.Native.Nat.{ℕ, suc, _+_, _≤_, _<_}
+use Prim.Native.Nat.{ℕ, zero, suc, _+_, _-_, _≤_, _<_}
 use native.Mathlib.Omega.{arith}
 use lib.ListN.{length, getD, take}
 use lib.Seq.{length-take-le}
-use lib.Dec.{eqb, ltb}
-use borrow.Author.Tests.{le-ltb}
-use Rattle.carried.specs.Image.{Placed, reading, Answer, done, refused, checked}
-use Rattle.carried.specs.Convention.{Step, refuse, next, Convention, Plan, bad, good, also, behind, from, plan, written, write, readUnder, read}
-use Rattle.carried.proofs.Plans.{Stops, by-step, by-limits, by-records}
+use lib.Dec.{ltb}
+use borrow.Author.Tests.{le-ltb, ltb-false}
+use Rattle.carried.specs.Image.{Placed, Answer, done, refused, checked}
+use Rattle.carried.specs.Convention.{Step, refuse, next, Convention, Plan, bad, good, also, behind, limited, taken, after, from, plan}
+use Rattle.carried.specs.Demand.{AllProper}
+use Rattle.carried.proofs.Plans.{by-records}
 use Rattle.carried.proofs.Readings.{isProper}
-use Rattle.carried.proofs.Walks.{Laws, Walk, end, one, walk-of}
 
-module _ (c : Convention) (number : c .State → ℕ → ℕ) where
-  -- a step reports this number, refused or placed; and so does its record
-  abbrev pub Reports : c .State → ℕ → Step (c .Placement) (c .State) → Type 0
-  Reports st k (refuse r j) = j ≡ number st k
-  Reports st k (next j p st′) = (j ≡ number st k) × (c .placedAt k j p .argument ≡ number st k)
-
-  -- in bytes that are read from place `at` on, with n of a body still to pass, a record at this place that names argument j
-  pub record Stop (bodies : Bool) (at n : ℕ) (st : c .State) (l : List ℕ) (place j : ℕ) : Type 0 where
-    pub index : ℕ
-    pub placed : place ≡ at + index
+module _ (c : Convention) (bodies : Bool) where
+  -- in bytes that are read from place `at` on, with n of a body still to pass, a record that is refused r, as argument j
+  record Stop (at n : ℕ) (st : c .State) (l : List ℕ) (r place j : ℕ) : Type 0 where
+    index : ℕ
+    placed : place ≡ at + index
     past : n ≤ index
-    pub inside : index < length l
-    pub before : List Placed
-    pub last : c .State
-    pub accepted : from c bodies at st n (take index l) ≡ good before last
-    pub names : j ≡ number last (getD l index 0)
+    inside : index < length l
+    before : List Placed
+    last : c .State
+    accepted : from c bodies at st n (take index l) ≡ good before last
+    refusal : taken c bodies (length l - (index + 1)) last (getD l index 0) ≡ refuse r j
+
+  -- ---- a refusal has such a record
 
   -- the first record itself
-  first : (bodies : Bool) (at : ℕ) (st : c .State) (k : ℕ) (l : List ℕ) (j : ℕ) → j ≡ number st k → Stop bodies at 0 st (k ∷ l) at j
-  first bodies at st k l j e = record { index = 0; placed = omega arith; past = omega arith; inside = omega arith; before = []; last = st; accepted = refl; names = e }
+  first : (at : ℕ) (st : c .State) (k : ℕ) (l : List ℕ) (r j : ℕ) → taken c bodies (length l) st k ≡ refuse r j → Stop at 0 st (k ∷ l) r at j
+  first at st k l r j e =
+      let n : length (k ∷ l) - (0 + 1) ≡ length l = omega arith in
+      record { index = 0; placed = omega arith; past = omega arith; inside = omega arith; before = []; last = st; accepted = refl; refusal = rw n e }
 
   -- one behind a record that is placed
-  later : (bodies : Bool) (at : ℕ) (st : c .State) (k : ℕ) (l : List ℕ) (place i j : ℕ) (p : c .Placement) (st′ : c .State) → c .step st k ≡ next j p st′ → c .fits st′ ≡ true
-      → Stop bodies (suc at) (behind bodies (c .placedAt k j p .size)) st′ l place i → Stop bodies at 0 st (k ∷ l) place i
-  later bodies at st k l place i j p st′ e f w =
+  later : (at : ℕ) (st : c .State) (k : ℕ) (l : List ℕ) (r place i j : ℕ) (p : c .Placement) (st′ : c .State) → c .step st k ≡ next j p st′ → c .fits st′ ≡ true
+      → Stop (suc at) (behind bodies (c .placedAt k j p .size)) st′ l r place i → Stop at 0 st (k ∷ l) r place i
+  later at st k l r place i j p st′ e f w =
       let long : length (take (w .index) l) ≡ w .index = length-take-le (w .index) l (omega (arith, w .inside)) in
       let n : ℕ = behind bodies (c .placedAt k j p .size) in
       let uncut : ltb (length (take (w .index) l)) n ≡ false = le-ltb (length (take (w .index) l)) n (omega (arith, w .past)) in
+      let m : length (k ∷ l) - (suc (w .index) + 1) ≡ length l - (w .index + 1) = omega arith in
       record {
         index = suc (w .index);
         placed = omega (arith, w .placed);
@@ -53,80 +53,186 @@ module _ (c : Convention) (number : c .State → ℕ → ℕ) where
         before = c .placedAt k j p ∷ w .before;
         last = w .last;
         accepted = rw (e, uncut, f, w .accepted);
-        names = w .names;
+        refusal = rw m (w .refusal);
       }
 
-  module _ (reports : (st : c .State) (k : ℕ) → Reports st k (c .step st k)) where
-    -- ---- refusals 1 to 5
+  abbrev Found : ℕ → ℕ → c .State → List ℕ → Plan (c .State) → Type 0
+  Found at n st l (bad r place j) = Stop at n st l r place j
+  Found at n st l (good L last) = Unit {0}
 
-    abbrev Found : Bool → ℕ → ℕ → c .State → List ℕ → Plan (c .State) → Type 0
-    Found bodies at n st l (bad r place j) = Stop bodies at n st l place j
-    Found bodies at n st l (good L last) = Unit {0}
+  found : (l : List ℕ) (at n : ℕ) (st : c .State) → Found at n st l (from c bodies at st n l)
+  found = by-records c bodies (λ at n st l q. Found at n st l q) (λ at n st. tt) pass first join
+    where
+      pass : (b at n : ℕ) (st : c .State) (l : List ℕ) (q : Plan (c .State)) → Found (suc at) n st l q → Found at (suc n) st (b ∷ l) q
+      pass b at n st l (bad r place j) w =
+          let m : length (b ∷ l) - (suc (w .index) + 1) ≡ length l - (w .index + 1) = omega arith in
+          record {
+            index = suc (w .index);
+            placed = omega (arith, w .placed);
+            past = omega (arith, w .past);
+            inside = omega (arith, w .inside);
+            before = w .before;
+            last = w .last;
+            accepted = w .accepted;
+            refusal = rw m (w .refusal);
+          }
+      pass b at n st l (good L last) w = tt
 
-    found : (bodies : Bool) (l : List ℕ) (at n : ℕ) (st : c .State) → Found bodies at n st l (from c bodies at st n l)
-    found bodies = by-records c bodies (λ at n st l q. Found bodies at n st l q) (λ at n st. tt) pass (λ at st k l r j s. first bodies at st k l j (stopped st k r j s)) join
-      where
-        pass : (b at n : ℕ) (st : c .State) (l : List ℕ) (q : Plan (c .State)) → Found bodies (suc at) n st l q → Found bodies at (suc n) st (b ∷ l) q
-        pass b at n st l (bad r place j) w = record {
-          index = suc (w .index);
-          placed = omega (arith, w .placed);
-          past = omega (arith, w .past);
-          inside = omega (arith, w .inside);
-          before = w .before;
-          last = w .last;
-          accepted = w .accepted;
-          names = w .names;
-        }
-        pass b at n st l (good L last) w = tt
+      join : (at : ℕ) (st : c .State) (k : ℕ) (l : List ℕ) (j : ℕ) (p : c .Placement) (st′ : c .State) → c .step st k ≡ next j p st′ → c .fits st′ ≡ true
+          → behind bodies (c .placedAt k j p .size) ≤ length l → (q : Plan (c .State)) → Found (suc at) (behind bodies (c .placedAt k j p .size)) st′ l q
+          → Found at 0 st (k ∷ l) (also (c .placedAt k j p) q)
+      join at st k l j p st′ e f h (bad r place i) w = later at st k l r place i j p st′ e f w
+      join at st k l j p st′ e f h (good L last) w = tt
 
-        stopped : (st : c .State) (k r j : ℕ) → Stops c bodies st k r j → j ≡ number st k
-        stopped st k r j (by-step e) = subst (Reports st k) e (reports st k)
-        stopped st k r j (by-limits p st′ e) = subst (Reports st k) e (reports st k) .0
+  -- ---- and such a record is the refusal
 
-        join : (at : ℕ) (st : c .State) (k : ℕ) (l : List ℕ) (j : ℕ) (p : c .Placement) (st′ : c .State) → c .step st k ≡ next j p st′ → c .fits st′ ≡ true
-            → behind bodies (c .placedAt k j p .size) ≤ length l → (q : Plan (c .State)) → Found bodies (suc at) (behind bodies (c .placedAt k j p .size)) st′ l q
-            → Found bodies at 0 st (k ∷ l) (also (c .placedAt k j p) q)
-        join at st k l j p st′ e f h (bad r place i) w = later bodies at st k l place i j p st′ e f w
-        join at st k l j p st′ e f h (good L last) w = tt
+  -- the plan behind a first record that is placed, of a part of the bytes and of them all
+  record Passes (at : ℕ) (st : c .State) (k : ℕ) (part l : List ℕ) (last : c .State) : Type 0 where
+    n : ℕ
+    next-state : c .State
+    rest : List Placed
+    short : n ≤ length part
+    accepted : from c bodies (suc at) next-state n part ≡ good rest last
+    whole : (r place j : ℕ) → from c bodies (suc at) next-state n l ≡ bad r place j → from c bodies at st 0 (k ∷ l) ≡ bad r place j
 
-    plan-stops : (bodies : Bool) (l : List ℕ) {r place j : ℕ} (r′ place′ j′ : ℕ) → plan c bodies l ≡ bad r′ place′ j′ → refused r′ place′ j′ ≡ refused r place j
-        → Stop bodies 0 0 (c .start) l place j
-    plan-stops bodies l {r} {place} {j} r′ place′ j′ e f =
-        let p : place′ ≡ place = cc in
-        let q : j′ ≡ j = cc in
-        rw (← p, ← q) (subst (Found bodies 0 0 (c .start) l) e (found bodies l 0 0 (c .start)))
+  passes : (at : ℕ) (st : c .State) (k : ℕ) (part l : List ℕ) → length part ≤ length l → (L : List Placed) (last : c .State)
+      → from c bodies at st 0 (k ∷ part) ≡ good L last → Passes at st k part l last
+  passes at st k part l h L last e = go (c .step st k) refl e
+    where
+      rests : (s : Placed) (q : Plan (c .State)) → also s q ≡ good L last → (M : List Placed) × (q ≡ good M last)
+      rests s (bad r p j) g = let z : _≡_ {A = ℕ} 0 1 = cc in absurd (omega arith)
+      rests s (good M st′) g = let i : st′ ≡ last = cc in (M, rw i refl)
 
-    pub write-stops : (l : List ℕ) (r place j : ℕ) → write c l ≡ refused r place j → Stop true 0 0 (c .start) l place j
-    write-stops l r place j e = go (plan c true l) refl e
-      where
-        go : (q : Plan (c .State)) → plan c true l ≡ q → written c l q ≡ refused r place j → Stop true 0 0 (c .start) l place j
-        go (bad r′ place′ j′) p f = plan-stops true l r′ place′ j′ p f
-        go (good L last) p f = let z : _≡_ {A = ℕ} 0 1 = cc in absurd (omega arith)
-
-    -- ---- and refusal 8
-
-    module _ (laws : Laws c) (img x : List ℕ) where
-      abbrev Told : ℕ → c .State → List ℕ → Answer → Type 0
-      Told at st ks (refused r place j) = Stop false at 0 st ks place j
-      Told at st ks (done y) = Unit {0}
-
-      told : {st last : c .State} {ks : List ℕ} {L : List Placed} → Walk c laws st ks L last → (at : ℕ) → Told at st ks (checked at L img (done x))
-      told end at = tt
-      told (one {st = st} {st′ = st′} {k = k} {j = j} {p = p} {ks = ks} {L = L} e f w) at = go (isProper (c .placedAt k j p) img) (checked (suc at) L img (done x)) (told w (suc at))
+      go : (s : Step (c .Placement) (c .State)) → c .step st k ≡ s
+          → after c at k (limited c bodies (length part) k s) (λ size st′. from c bodies (suc at) st′ (behind bodies size) part) ≡ good L last → Passes at st k part l last
+      go (refuse r j) f g = let z : _≡_ {A = ℕ} 0 1 = cc in absurd (omega arith)
+      go (next j p st′) f g = tests (ltb (length part) (behind bodies (c .placedAt k j p .size))) (c .fits st′) refl refl g
         where
-          go : (t : Bool) (a : Answer) → Told (suc at) st′ ks a → Told at st (k ∷ ks) (cond t a (refused 8 at (c .placedAt k j p .argument)))
-          go true (refused r place i) v = later false at st k ks place i j p st′ e f v
-          go true (done y) v = tt
-          go false a v = first false at st k ks (c .placedAt k j p .argument) (subst (Reports st k) e (reports st k) .1)
+          tests : (t u : Bool) → ltb (length part) (behind bodies (c .placedAt k j p .size)) ≡ t → c .fits st′ ≡ u
+              → after c at k (cond t (refuse 4 j) (cond u (next j p st′) (refuse 5 j))) (λ size st″. from c bodies (suc at) st″ (behind bodies size) part) ≡ good L last → Passes at st k part l last
+          tests true u x y i = let z : _≡_ {A = ℕ} 0 1 = cc in absurd (omega arith)
+          tests false false x y i = let z : _≡_ {A = ℕ} 0 1 = cc in absurd (omega arith)
+          tests false true x y i =
+              let b : ℕ = behind bodies (c .placedAt k j p .size) in
+              let short : b ≤ length part = ltb-false (length part) b x in
+              let uncut : ltb (length l) b ≡ false = le-ltb (length l) b (omega arith) in
+              let w = rests (c .placedAt k j p) (from c bodies (suc at) st′ b part) i in
+              record {
+                n = b;
+                next-state = st′;
+                rest = w .0;
+                short = short;
+                accepted = w .1;
+                whole = λ r place j′ v. rw (f, uncut, y, v);
+              }
 
-    -- (6 is of no record)
-    pub read-stops : Laws c → (sig img : List ℕ) (r place j : ℕ) → read c sig img ≡ refused r place j → Stop false 0 0 (c .start) sig place j ⊎ (refused 6 0 0 ≡ refused r place j)
-    read-stops laws sig img r place j e = go (plan c false sig) refl e
-      where
-        go : (q : Plan (c .State)) → plan c false sig ≡ q → readUnder c img q ≡ refused r place j → Stop false 0 0 (c .start) sig place j ⊎ (refused 6 0 0 ≡ refused r place j)
-        go (bad r′ place′ j′) p f = inl (plan-stops false sig r′ place′ j′ p f)
-        go (good L last) p f = tests (eqb (length img) (c .imageLength last)) f
-          where
-            tests : (t : Bool) → cond t (checked 0 L img (done (reading L img))) (refused 6 0 0) ≡ refused r place j → Stop false 0 0 (c .start) sig place j ⊎ (refused 6 0 0 ≡ refused r place j)
-            tests true g = inl (subst (Told laws img (reading L img) 0 (c .start) sig) g (told laws img (reading L img) (walk-of c laws sig (c .start) L last 0 p) 0))
-            tests false g = inr g
+  stopped : (l : List ℕ) (at n : ℕ) (st : c .State) (i : ℕ) (L : List Placed) (last : c .State) (r j : ℕ) → n ≤ i → i < length l → from c bodies at st n (take i l) ≡ good L last
+      → taken c bodies (length l - (i + 1)) last (getD l i 0) ≡ refuse r j → from c bodies at st n l ≡ bad r (at + i) j
+  stopped [] at n st i L last r j h g e f = absurd (omega arith)
+  stopped (b ∷ l) at (suc n) st zero L last r j h g e f = absurd (omega arith)
+  stopped (b ∷ l) at (suc n) st (suc i) L last r j h g e f =
+      let m : length (b ∷ l) - (suc i + 1) ≡ length l - (i + 1) = omega arith in
+      let x : suc at + i ≡ at + suc i = omega arith in
+      stopped l (suc at) n st i L last r j (omega arith) (omega arith) e (rw m at f) ∙ rw x
+  stopped (k ∷ l) at zero st zero L last r j h g e f =
+      let s : st ≡ last = cc in
+      let m : length (k ∷ l) - (0 + 1) ≡ length l = omega arith in
+      let x : at + 0 ≡ at = omega arith in
+      let y : taken c bodies (length l) st k ≡ refuse r j = rw s (rw m at f) in
+      rw (y, x)
+  stopped (k ∷ l) at zero st (suc i) L last r j h g e f =
+      let long : length (take i l) ≡ i = length-take-le i l (omega arith) in
+      let m : length (k ∷ l) - (suc i + 1) ≡ length l - (i + 1) = omega arith in
+      let x : suc at + i ≡ at + suc i = omega arith in
+      let w : Passes at st k (take i l) l last = passes at st k (take i l) l (omega arith) L last e in
+      w .whole r (at + suc i) j
+      (stopped l (suc at) (w .n) (w .next-state) i (w .rest) last r j (omega (arith, w .short)) (omega arith) (w .accepted) (rw m at f) ∙ rw x)
+
+  -- The record at this place is refused r, as argument j, and what is before it is accepted.
+  pub record StopsAt (l : List ℕ) (r place j : ℕ) : Type 0 where
+    pub inside : place < length l
+    pub before : List Placed
+    pub last : c .State
+    pub accepted : plan c bodies (take place l) ≡ good before last
+    pub refusal : taken c bodies (length l - (place + 1)) last (getD l place 0) ≡ refuse r j
+
+  pub plan-stops : (l : List ℕ) (r place j : ℕ) → (plan c bodies l ≡ bad r place j) ↔ StopsAt l r place j
+  plan-stops l r place j = (there, back)
+    where
+      there : plan c bodies l ≡ bad r place j → StopsAt l r place j
+      there e =
+          let w : Stop 0 0 (c .start) l r place j = subst (Found 0 0 (c .start) l) e (found l 0 0 (c .start)) in
+          let i : w .index ≡ place = omega (arith, w .placed) in
+          rw (← i) (record { inside = w .inside; before = w .before; last = w .last; accepted = w .accepted; refusal = w .refusal })
+
+      back : StopsAt l r place j → plan c bodies l ≡ bad r place j
+      back w =
+          let x : 0 + place ≡ place = omega arith in
+          stopped l 0 0 (c .start) place (w .before) (w .last) r j (omega arith) (w .inside) (w .accepted) (w .refusal) ∙ rw x
+
+-- ---- refusal 8
+
+module _ (img : List ℕ) where
+  -- the record at this place is the first that is improper, and argument j
+  pub record ImproperAt (L : List Placed) (place j : ℕ) : Type 0 where
+    pub before : List Placed
+    pub here : Placed
+    pub behind : List Placed
+    pub records : L ≡ before ++ (here ∷ behind)
+    pub placed : place ≡ length before
+    pub number : j ≡ here .argument
+    pub proper-before : AllProper before img
+    pub improper : isProper here img ≡ false
+
+  -- counted from here
+  abbrev Tested : ℕ → List Placed → Answer → Type 0
+  Tested at L (refused r place j) = (r ≡ 8) × (i : ℕ) × ImproperAt L i j × (place ≡ at + i)
+  Tested at L (done y) = AllProper L img
+
+  tested : (L : List Placed) (at : ℕ) (x : List ℕ) → Tested at L (checked at L img (done x))
+  tested [] at x = tt
+  tested (s ∷ L) at x = go (isProper s img) refl (checked (suc at) L img (done x)) (tested L (suc at) x)
+    where
+      go : (t : Bool) → isProper s img ≡ t → (a : Answer) → Tested (suc at) L a → Tested at (s ∷ L) (cond t a (refused 8 at (s .argument)))
+      go true e (refused r place j) w =
+          let v : ImproperAt L (w .1) j = w .2 in
+          (w .0, suc (w .1), record {
+            before = s ∷ v .before;
+            here = v .here;
+            behind = v .behind;
+            records = ap (λ (M : List Placed). s ∷ M) (v .records);
+            placed = ap suc (v .placed);
+            number = v .number;
+            proper-before = (e, v .proper-before);
+            improper = v .improper;
+          }, omega (arith, w .3))
+      go true e (done y) w = (e, w)
+      go false e a w = (refl, 0, record {
+        before = [];
+        here = s;
+        behind = L;
+        records = refl;
+        placed = refl;
+        number = refl;
+        proper-before = tt;
+        improper = e;
+      }, omega arith)
+
+  refuses : (M : List Placed) (s : Placed) (N : List Placed) (at : ℕ) (a : Answer) → AllProper M img → isProper s img ≡ false → checked at (M ++ (s ∷ N)) img a ≡ refused 8 (at + length M) (s .argument)
+  refuses [] s N at a h e = let x : at + 0 ≡ at = omega arith in rw (e, x)
+  refuses (m ∷ M) s N at a h e = let x : suc at + length M ≡ at + suc (length M) = omega arith in rw (h .0) (refuses M s N (suc at) a (h .1) e ∙ rw x)
+
+  pub checked-refuses : (L : List Placed) (x : List ℕ) (r place j : ℕ) → (checked 0 L img (done x) ≡ refused r place j) ↔ ((r ≡ 8) × ImproperAt L place j)
+  checked-refuses L x r place j = (there, back)
+    where
+      there : checked 0 L img (done x) ≡ refused r place j → (r ≡ 8) × ImproperAt L place j
+      there e =
+          let w : (r ≡ 8) × (i : ℕ) × ImproperAt L i j × (place ≡ 0 + i) = subst (Tested 0 L) e (tested L 0 x) in
+          let i : w .1 ≡ place = omega (arith, w .3) in
+          (w .0, subst (λ (p : ℕ). ImproperAt L p j) i (w .2))
+
+      back : (r ≡ 8) × ImproperAt L place j → checked 0 L img (done x) ≡ refused r place j
+      back h =
+          let w : ImproperAt L place j = h .1 in
+          let y : 0 + length (w .before) ≡ place = omega (arith, w .placed) in
+          rw (w .records, h .0, w .number, ← y) (refuses (w .before) (w .here) (w .behind) 0 (done x) (w .proper-before) (w .improper))
