@@ -6,3 +6,4 @@ pub mod Theorem
 pub mod Records
 pub mod RoundTrip
 pub mod Refusals
+pub mod Carriers

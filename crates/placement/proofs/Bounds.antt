@@ -11,8 +11,8 @@ use lib.Dec.{leb}
 use borrow.Author.Tests.{leb-true, leb-false}
 use Rattle.device.specs.declared.Device.{Device}
 use Rattle.carried.specs.Image.{Placed}
-use Rattle.carried.specs.Convention.{Step, refuse, next, Plan, bad, good, also, behind, from, plan}
-use Rattle.carried.proofs.Plans.{Stops, by-step, by-limits, by-records}
+use Rattle.carried.specs.Convention.{Step, refuse, next, Plan, bad, good, also, behind, taken, from, plan}
+use Rattle.carried.proofs.Plans.{by-step, by-limits, stops, Stops, by-records}
 use Rattle.o32.specs.declared.Class.the-variants.{Unknown, Marker, Signed, Unsigned}
 use Rattle.o32.specs.declared.Kind.{Kind}
 use Rattle.o32.specs.declared.State.{State}
@@ -154,8 +154,8 @@ reaches d bodies = by-records (O32 d) bodies (λ at n st l q. Held at n st → R
     pass : (b at n : ℕ) (st : State) (l : List ℕ) (q : Plan State) → (Held (suc at) n st → Reaches (suc at + length l) q) → Held at (suc n) st → Reaches (at + length (b ∷ l)) q
     pass b at n st l q w h = subst (λ (m : ℕ). Reaches m q) (omega arith) (w (record { before = omega (arith, h .before); fits = h .fits; few = h .few }))
 
-    stop : (at : ℕ) (st : State) (k : ℕ) (l : List ℕ) (r j : ℕ) → Stops (O32 d) bodies st k r j → Held at 0 st → Reaches (at + length (k ∷ l)) (bad r at j)
-    stop at st k l r j s h = (omega (arith, held-place at 0 st h), omega (arith, named st k r j s, h .few))
+    stop : (at : ℕ) (st : State) (k : ℕ) (l : List ℕ) (r j : ℕ) → taken (O32 d) bodies (length l) st k ≡ refuse r j → Held at 0 st → Reaches (at + length (k ∷ l)) (bad r at j)
+    stop at st k l r j e h = (omega (arith, held-place at 0 st h), omega (arith, named st k r j (stops (O32 d) bodies (length l) st k r j e), h .few))
 
     join : (at : ℕ) (st : State) (k : ℕ) (l : List ℕ) (j : ℕ) (p : Placement) (st′ : State) → O32 d .step st k ≡ next j p st′ → leb (st′ .end) 1024 ≡ true
         → behind bodies (p .kind .size) ≤ length l → (q : Plan State) → (Held (suc at) (behind bodies (p .kind .size)) st′ → Reaches (suc at + length l) q)

@@ -44,7 +44,7 @@ onward-end st k = go (is Marker k) refl
     go true e = rw e
     go false e = rw e
 
-reach-end : (ks : List ℕ) (st : State) → reach st ks .end ≡ endOf (st .end) ks
+pub reach-end : (ks : List ℕ) (st : State) → reach st ks .end ≡ endOf (st .end) ks
 reach-end [] st = refl
 reach-end (k ∷ ks) st = reach-end ks (onward st (kindOf k)) ∙ ap (λ (e : ℕ). endOf e ks) (onward-end st (kindOf k))
 
@@ -174,7 +174,7 @@ getD-register (f ∷ fs) (suc j) i l h =
     rw e (getD-append-add (run (16 + 4 * (f - 12)) 4) (registerBytes fs) (4 * j + i) 0 ∙ getD-register fs j i (omega arith) h)
 
 -- only floats have a floating register
-floats-only : (d : Device) (before : List ℕ) (k : ℕ) → 1 ≤ registerBehind d before k → is Float (kindOf k) ≡ true
+pub floats-only : (d : Device) (before : List ℕ) (k : ℕ) → 1 ≤ registerBehind d before k → is Float (kindOf k) ≡ true
 floats-only NoFpu before k h = absurd (omega arith)
 floats-only Fpu [] k h = go (is Float (kindOf k)) h
   where

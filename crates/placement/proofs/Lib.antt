@@ -5,3 +5,5 @@ pub mod Steps
 pub mod Carrying
 pub mod Bounds
 pub mod Numbering
+pub mod Bytes
+pub mod Nothing

@@ -27,6 +27,7 @@ pub record Stepped (d : Device) (st : State) (k : Kind) (j : ℕ) (p : Placement
   pub number : j ≡ argument st k
   pub at : p ≡ placement d st k
   pub on : st′ ≡ onward st k
+  pub known : is Unknown k ≡ false
   pub rightly : misplaced st k ≡ false
   pub few : full st k ≡ false
 
@@ -35,14 +36,14 @@ Says d st k (refuse r j) = j ≡ argument st k
 Says d st k (next j p st′) = Stepped d st k j p st′
 
 pub says : (d : Device) (st : State) (k : Kind) → Says d st k (stepped d st k)
-says d st k = go (is Unknown k) (misplaced st k) (full st k) refl refl
+says d st k = go (is Unknown k) (misplaced st k) (full st k) refl refl refl
   where
-    go : (u m f : Bool) → misplaced st k ≡ m → full st k ≡ f
+    go : (u m f : Bool) → is Unknown k ≡ u → misplaced st k ≡ m → full st k ≡ f
         → Says d st k (cond u (refuse 1 (argument st k)) (cond m (refuse 2 (argument st k)) (cond f (refuse 3 (argument st k)) (next (argument st k) (placement d st k) (onward st k)))))
-    go true m f e g = refl
-    go false true f e g = refl
-    go false false true e g = refl
-    go false false false e g = record { number = refl; at = refl; on = refl; rightly = e; few = g }
+    go true m f h e g = refl
+    go false true f h e g = refl
+    go false false true h e g = refl
+    go false false false h e g = record { number = refl; at = refl; on = refl; known = h; rightly = e; few = g }
 
 pub step-says : (d : Device) (st : State) (k j : ℕ) (p : Placement) (st′ : State) → O32 d .step st k ≡ next j p st′ → Stepped d st (kindOf k) j p st′
 step-says d st k j p st′ e = subst (Says d st (kindOf k)) e (says d st (kindOf k))
@@ -50,10 +51,10 @@ step-says d st k j p st′ e = subst (Says d st (kindOf k)) e (says d st (kindOf
 -- ---- where a record ends
 
 -- a marker's width is 0
-marker-width : (k : Kind) → is Marker k ≡ true → k .size ≡ 0 → width k ≡ 0
+pub marker-width : (k : Kind) → is Marker k ≡ true → k .size ≡ 0 → width k ≡ 0
 marker-width k e z = rw (eqb-true (classNumber (k .class)) 1 e, z)
 
-none-up : (n : ℕ) → up 0 n ≡ 0
+pub none-up : (n : ℕ) → up 0 n ≡ 0
 none-up n = mul-zero _
 
 -- a record's bytes end where its state does; a marker has none, at offset 0

@@ -10,7 +10,7 @@ use Rattle.carried.specs.Image.{Placed}
 use Rattle.o32.specs.declared.Class.the-variants.{Marker, Float}
 use Rattle.o32.specs.Kinds.{kindOf, is}
 use Rattle.o32.specs.Offsets.{extension, width, offset, ending}
-use Rattle.o32.specs.O32.{run}
+use Rattle.o32.specs.O32.{run, area}
 
 -- Rule 2. Where the arguments of these kinds end, the first laid from this end on. A marker is no argument.
 abbrev pub endOf : ℕ → List ℕ → ℕ
@@ -43,6 +43,43 @@ pub record CarriedAt (d : Device) (before : List ℕ) (k : ℕ) (s : Placed) : T
       → (i : ℕ) → i < 4 → getD (s .carriers) i 0 ≡ 16 + 4 * (f + 1 - 12) + i
   pub even : (f : ℕ) → registerBehind d before k ≡ f → 1 ≤ f → kindOf k .size ≡ 8
       → (i : ℕ) → i < 4 → getD (s .carriers) (4 + i) 0 ≡ 16 + 4 * (f - 12) + i
+
+-- Image byte p carries byte i of the argument of kind k behind these kinds. The same sentences, said of one byte: each way in which a
+-- byte is carried.
+pub data Carries (d : Device) (before : List ℕ) (k i p : ℕ) : Type 0 where
+  low : (o : ℕ) → registerBehind d before k ≡ 0 → o ≡ offset (kindOf k) (endOf 0 before) → o + i < 16 → p ≡ o + i → Carries d before k i p
+  high : (o : ℕ) → registerBehind d before k ≡ 0 → o ≡ offset (kindOf k) (endOf 0 before) → 16 ≤ o + i → p ≡ 32 + (o + i) → Carries d before k i p
+  single : (f : ℕ) → registerBehind d before k ≡ f → 1 ≤ f → kindOf k .size ≡ 4 → p ≡ 16 + 4 * (f - 12) + i → Carries d before k i p
+  odd : (f : ℕ) → registerBehind d before k ≡ f → 1 ≤ f → kindOf k .size ≡ 8 → i < 4 → p ≡ 16 + 4 * (f + 1 - 12) + i → Carries d before k i p
+  even : (f : ℕ) → registerBehind d before k ≡ f → 1 ≤ f → kindOf k .size ≡ 8 → 4 ≤ i → p ≡ 16 + 4 * (f - 12) + (i - 4) → Carries d before k i p
+
+-- A kind of a signature with the kinds before and behind it.
+pub record Argument (sig : List ℕ) : Type 0 where
+  pub before : List ℕ
+  pub kind : ℕ
+  pub behind : List ℕ
+  pub here : before ++ (kind ∷ behind) ≡ sig
+
+-- "An argument's bytes are those of its body after promotion, without fill." (A marker has none.)
+pub record ArgumentByte (sig : List ℕ) : Type 0 where
+  pub argument : Argument sig
+  pub index : ℕ
+  pub inside : index < width (kindOf (argument .kind))
+
+abbrev pub CarriedBy : Device → {sig : List ℕ} → ArgumentByte sig → ℕ → Type 0
+CarriedBy d b p = Carries d (b .argument .before) (b .argument .kind) (b .index) p
+
+-- "The carried bytes are those that the placement rules give to arguments".
+abbrev pub CarriedByte : Device → List ℕ → ℕ → Type 0
+CarriedByte d sig p = (b : ArgumentByte sig) × CarriedBy d b p
+
+-- The length of an image of arguments of these kinds, "32 + A", and of a list: a kind byte and a body for each.
+abbrev pub imageBytes : List ℕ → ℕ
+imageBytes ks = 32 + area (endOf 0 ks)
+
+abbrev pub listBytes : List ℕ → ℕ
+listBytes [] = 0
+listBytes (k ∷ ks) = 1 + kindOf k .size + listBytes ks
 
 -- Request (iii) of document 02, of a structure (kinds 40 to FF): "of a structure at offset o below 16, the first 16 - o bytes (all,
 -- if fewer) lie together from image byte o and the rest from 48; from o = 16 on, all lie from 32 + o."

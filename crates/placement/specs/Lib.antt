@@ -1,3 +1,4 @@
 pub mod Carrying
-pub mod Numbering
+pub mod Nothing
+pub mod Refusing
 pub mod Fitting

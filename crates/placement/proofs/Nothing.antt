@@ -1,0 +1,265 @@
+-- What carries nothing: each argument has the offsets from the end of those before to its own end, and of these only its own bytes are
+-- carried, if it has no floating register.
+-- Assumes nothing.
+use mathlib.Core.Path.{_≡_, refl, sym, ap, ap₂, _∙_, subst}
+use mathlib.Core.Logic.{_⊎_, inl, inr}
+use mathlib.Core.List.{List, [], _∷_, _++_}
+use mathlib.Core.Bool.{Bool, true, false, cond, _&&_, _||_}
+use Prim.Native.Nat.{ℕ, suc, _+_, _-_, _*_, _≤_, _<_}
+use native.Mathlib.Omega.{arith}
+use lib.ListN.{length}
+use lib.Dec.{ltb}
+use borrow.Author.Tests.{ltb-true, ltb-false}
+use Rattle.words.specs.Words.{up}
+use Rattle.device.specs.declared.Device.{Device}
+use Rattle.device.specs.declared.Device.the-variants.{Fpu, NoFpu}
+use Rattle.carried.specs.Image.{Placed}
+use Rattle.carried.specs.Convention.{good, plan}
+use Rattle.carried.proofs.Walks.{Walk, end, one, walk-of}
+use Rattle.o32.specs.declared.Class.the-variants.{Unknown, Marker, Float}
+use Rattle.o32.specs.declared.State.{State}
+use Rattle.o32.specs.Kinds.{kindOf, is}
+use Rattle.o32.specs.Offsets.{width, offset, ending}
+use Rattle.o32.specs.O32.{O32, carrier, start}
+use Rattle.placement.specs.Carrying.{endOf, registerBehind, Carries, low, high, single, odd, even, Argument, ArgumentByte, CarriedBy, CarriedByte}
+use Rattle.placement.specs.Nothing.{endBefore, offsetOf, widthOf, GivenTo, CarriesNothing}
+use Rattle.placement.proofs.KindFacts.{kind-sound, float-width}
+use Rattle.placement.proofs.Laws.{O32-laws, up-ge}
+use Rattle.placement.proofs.Steps.{step-says, marker-width, none-up}
+use Rattle.placement.proofs.Carrying.{floats-only}
+
+-- ---- kinds that are known, and where they end
+
+abbrev pub Known : List ℕ → Type 0
+Known [] = Unit {0}
+Known (k ∷ ks) = (is Unknown (kindOf k) ≡ false) × Known ks
+
+pub walk-known : (d : Device) {st last : State} {ks : List ℕ} {L : List Placed} → Walk (O32 d) (O32-laws d) st ks L last → Known ks
+walk-known d end = tt
+walk-known d (one {st = st} {st′ = st′} {k = k} {j = j} {p = p} e f w) = (step-says d st k j p st′ e .known, walk-known d w)
+
+known-right : (xs ys : List ℕ) → Known (xs ++ ys) → Known ys
+known-right [] ys h = h
+known-right (x ∷ xs) ys h = known-right xs ys (h .1)
+
+known-left : (xs ys : List ℕ) → Known (xs ++ ys) → Known xs
+known-left [] ys h = tt
+known-left (x ∷ xs) ys h = (h .0, known-left xs ys (h .1))
+
+-- where a kind ends that begins from here on
+abbrev next-end : ℕ → ℕ → ℕ
+next-end e k = cond (is Marker (kindOf k)) e (ending (kindOf k) e)
+
+-- a marker has no bytes, and an argument begins where those before end, or later
+pub data Lies (e k : ℕ) : Type 0 where
+  marker : width (kindOf k) ≡ 0 → offset (kindOf k) e ≡ 0 → next-end e k ≡ e → Lies e k
+  laid : e ≤ offset (kindOf k) e → next-end e k ≡ offset (kindOf k) e + up 4 (width (kindOf k)) → Lies e k
+
+lies : (e k : ℕ) → is Unknown (kindOf k) ≡ false → Lies e k
+lies e k h = go (is Marker (kindOf k)) refl
+  where
+    go : (t : Bool) → is Marker (kindOf k) ≡ t → Lies e k
+    go true g =
+        let z : (kindOf k .size ≡ 0) × (kindOf k .alignment ≡ 0) = kind-sound k .markers g in
+        marker (marker-width (kindOf k) g (z .0)) (ap (λ (a : ℕ). up a e) (z .1) ∙ none-up e) (rw g refl)
+    go false g = laid (up-ge (kindOf k .alignment) e (kind-sound k .aligned (rw (h, g) refl))) (rw g refl)
+
+end-append : (xs ys : List ℕ) (e : ℕ) → endOf e (xs ++ ys) ≡ endOf (endOf e xs) ys
+end-append [] ys e = refl
+end-append (x ∷ xs) ys e = end-append xs ys (next-end e x)
+
+end-grows : (ks : List ℕ) (e : ℕ) → Known ks → e ≤ endOf e ks
+end-grows [] e h = omega arith
+end-grows (k ∷ ks) e h = elim (lies e k (h .0)) [
+  | marker w o n ↦ omega (arith, n, end-grows ks (next-end e k) (h .1))
+  | laid b n ↦ omega (arith, b, n, end-grows ks (next-end e k) (h .1))
+]
+
+-- ---- two kinds of one signature
+
+-- the later of two has the earlier one before it
+record Later (xs : List ℕ) (k : ℕ) (ys : List ℕ) : Type 0 where
+  between : List ℕ
+  before : ys ≡ xs ++ (k ∷ between)
+
+later : (xs : List ℕ) (k : ℕ) (us ys : List ℕ) (j : ℕ) (vs : List ℕ) → xs ++ (k ∷ us) ≡ ys ++ (j ∷ vs) → length xs < length ys → Later xs k ys
+later xs k us [] j vs e h = absurd (omega arith)
+later [] k us (y ∷ ys) j vs e h = let x : y ≡ k = cc in record { between = ys; before = ap (λ (i : ℕ). i ∷ ys) x }
+later (x ∷ xs) k us (y ∷ ys) j vs e h =
+    let i : y ≡ x = cc in
+    let w : Later xs k ys = later xs k us ys j vs (cc) (omega arith) in
+    record { between = w .between; before = ap₂ (λ (a : ℕ) (l : List ℕ). a ∷ l) i (w .before) }
+
+pub record Same (xs : List ℕ) (k : ℕ) (ys : List ℕ) (j : ℕ) : Type 0 where
+  pub before-same : xs ≡ ys
+  pub kind-same : k ≡ j
+
+pub same : (xs : List ℕ) (k : ℕ) (us ys : List ℕ) (j : ℕ) (vs : List ℕ) → xs ++ (k ∷ us) ≡ ys ++ (j ∷ vs) → length xs ≡ length ys → Same xs k ys j
+same [] k us [] j vs e h = record { before-same = refl; kind-same = cc }
+same [] k us (y ∷ ys) j vs e h = absurd (omega arith)
+same (x ∷ xs) k us [] j vs e h = absurd (omega arith)
+same (x ∷ xs) k us (y ∷ ys) j vs e h =
+    let i : x ≡ y = cc in
+    let w : Same xs k ys j = same xs k us ys j vs (cc) (omega arith) in
+    record { before-same = rw (i, w .before-same); kind-same = w .kind-same }
+
+-- ---- floating registers
+
+register-values : (d : Device) (before : List ℕ) (k : ℕ) → 1 ≤ registerBehind d before k → (registerBehind d before k ≡ 12) ⊎ (registerBehind d before k ≡ 14)
+register-values NoFpu before k h = absurd (omega arith)
+register-values Fpu [] k h = go (is Float (kindOf k)) h
+  where
+    go : (t : Bool) → 1 ≤ cond t 12 0 → (_≡_ {A = ℕ} (cond t 12 0) 12) ⊎ (_≡_ {A = ℕ} (cond t 12 0) 14)
+    go true h = inl refl
+    go false h = absurd (omega arith)
+register-values Fpu (j ∷ []) k h = go (is Float (kindOf j) && is Float (kindOf k)) h
+  where
+    go : (t : Bool) → 1 ≤ cond t 14 0 → (_≡_ {A = ℕ} (cond t 14 0) 12) ⊎ (_≡_ {A = ℕ} (cond t 14 0) 14)
+    go true h = inr refl
+    go false h = absurd (omega arith)
+register-values Fpu (j ∷ i ∷ js) k h = absurd (omega arith)
+
+-- where a byte is carried: by its offset, or in the word of a floating register that the argument is given
+data Where (d : Device) {sig : List ℕ} (b : ArgumentByte sig) (p : ℕ) : Type 0 where
+  at-offset : (x : ℕ) → registerBehind d (b .argument .before) (b .argument .kind) ≡ 0 → x ≡ offsetOf (b .argument) + b .index → p ≡ carrier x → Where d b p
+  in-float : (g : ℕ) → GivenTo d (b .argument) g → (16 + 4 * (g - 12) ≤ p) × (p < 20 + 4 * (g - 12)) → (12 ≤ g) × (g < 16) → Where d b p
+
+carrier-cases : (q : ℕ) → ((q < 16) × (carrier q ≡ q)) ⊎ ((16 ≤ q) × (carrier q ≡ 32 + q))
+carrier-cases q = go (ltb q 16) refl
+  where
+    go : (t : Bool) → ltb q 16 ≡ t → ((q < 16) × (cond t q (32 + q) ≡ q)) ⊎ ((16 ≤ q) × (cond t q (32 + q) ≡ 32 + q))
+    go true e = inl (ltb-true q 16 e, refl)
+    go false e = inr (ltb-false q 16 e, refl)
+
+same-offset : (x y : ℕ) → carrier x ≡ carrier y → x ≡ y
+same-offset x y e = elim (carrier-cases x) [
+  | inl a ↦ elim (carrier-cases y) [ inl b ↦ omega (arith, e) | inr b ↦ absurd (omega (arith, e)) ]
+  | inr a ↦ elim (carrier-cases y) [ inl b ↦ absurd (omega (arith, e)) | inr b ↦ omega (arith, e) ]
+]
+
+module _ (d : Device) (sig : List ℕ) where
+  where-is : (b : ArgumentByte sig) (p : ℕ) → CarriedBy d b p → Where d b p
+  where-is b p (low o z e h g) = elim (carrier-cases (o + b .index)) [
+    | inl x ↦ at-offset (o + b .index) z (ap (λ (y : ℕ). y + b .index) e) (g ∙ sym (x .1))
+    | inr x ↦ absurd (omega arith)
+  ]
+  where-is b p (high o z e h g) = elim (carrier-cases (o + b .index)) [
+    | inl x ↦ absurd (omega arith)
+    | inr x ↦ at-offset (o + b .index) z (ap (λ (y : ℕ). y + b .index) e) (g ∙ sym (x .1))
+  ]
+  where-is b p (single f z e h g) =
+      let k : ℕ = b .argument .kind in
+      let n : b .index < 4 = omega (arith, b .inside, float-width (kindOf k) (floats-only d (b .argument .before) k (omega arith))) in
+      elim (register-values d (b .argument .before) k (omega arith)) [
+        | inl v ↦ in-float f (omega arith, inl (sym z)) (omega arith, omega arith) (omega arith, omega arith)
+        | inr v ↦ in-float f (omega arith, inl (sym z)) (omega arith, omega arith) (omega arith, omega arith)
+      ]
+  where-is b p (odd f z e h n g) = elim (register-values d (b .argument .before) (b .argument .kind) (omega arith)) [
+    | inl v ↦ in-float (f + 1) (omega arith, inr (omega arith, h)) (omega arith, omega arith) (omega arith, omega arith)
+    | inr v ↦ in-float (f + 1) (omega arith, inr (omega arith, h)) (omega arith, omega arith) (omega arith, omega arith)
+  ]
+  where-is b p (even f z e h n g) =
+      let k : ℕ = b .argument .kind in
+      let m : b .index < 8 = omega (arith, b .inside, float-width (kindOf k) (floats-only d (b .argument .before) k (omega arith))) in
+      elim (register-values d (b .argument .before) k (omega arith)) [
+        | inl v ↦ in-float f (omega arith, inl (sym z)) (omega arith, omega arith) (omega arith, omega arith)
+        | inr v ↦ in-float f (omega arith, inl (sym z)) (omega arith, omega arith) (omega arith, omega arith)
+      ]
+
+  -- ---- at an offset
+
+  -- the argument whose byte is carried at this offset
+  record Own (x : ℕ) : Type 0 where
+    argument : Argument sig
+    unfloated : registerBehind d (argument .before) (argument .kind) ≡ 0
+    from : offsetOf argument ≤ x
+    before-end : x < offsetOf argument + widthOf argument
+
+  own : (x : ℕ) → CarriedByte d sig (carrier x) → Own x
+  own x h = go (where-is (h .0) (carrier x) (h .1))
+    where
+      go : Where d (h .0) (carrier x) → Own x
+      go (at-offset y z e g) =
+          let i : x ≡ y = same-offset x y g in
+          record { argument = h .0 .argument; unfloated = z; from = omega arith; before-end = omega (arith, h .0 .inside) }
+      go (in-float g w r s) = elim (carrier-cases x) [ inl y ↦ absurd (omega arith) | inr y ↦ absurd (omega arith) ]
+
+  module _ (known : Known sig) where
+    of-known : (a : Argument sig) → Known (a .before ++ (a .kind ∷ a .behind))
+    of-known a = subst Known (sym (a .here)) known
+
+    abbrev endAfter : Argument sig → ℕ
+    endAfter a = next-end (endBefore a) (a .kind)
+
+    argument-lies : (a : Argument sig) → Lies (endBefore a) (a .kind)
+    argument-lies a = lies (endBefore a) (a .kind) (known-right (a .before) (a .kind ∷ a .behind) (of-known a) .0)
+
+    -- an earlier argument ends before a later one begins
+    ordered : (a b : Argument sig) → length (a .before) < length (b .before) → endAfter a ≤ endBefore b
+    ordered a b h =
+        let w : Later (a .before) (a .kind) (b .before) = later (a .before) (a .kind) (a .behind) (b .before) (b .kind) (b .behind) (a .here ∙ sym (b .here)) h in
+        let e : endBefore b ≡ endOf (endAfter a) (w .between) = ap (endOf 0) (w .before) ∙ end-append (a .before) (a .kind ∷ w .between) 0 in
+        let n : Known (w .between) = known-right (a .before) (a .kind ∷ w .between) (subst Known (w .before) (known-left (b .before) (b .kind ∷ b .behind) (of-known b))) .1 in
+        omega (arith, e, end-grows (w .between) (endAfter a) n)
+
+    -- and each ends before the end of all
+    all-end : (a : Argument sig) → endAfter a ≤ endOf 0 sig
+    all-end a =
+        let e : endOf 0 sig ≡ endOf (endAfter a) (a .behind) = ap (endOf 0) (sym (a .here)) ∙ end-append (a .before) (a .kind ∷ a .behind) 0 in
+        omega (arith, e, end-grows (a .behind) (endAfter a) (known-right (a .before) (a .kind ∷ a .behind) (of-known a) .1))
+
+    -- an argument's own bytes lie between the end of those before and its own end
+    own-lies : {x : ℕ} (o : Own x) → (endBefore (o .argument) ≤ x) × (x < endAfter (o .argument))
+    own-lies o = elim (argument-lies (o .argument)) [
+      | marker w z n ↦ absurd (omega (arith, o .from, o .before-end))
+      | laid b n ↦ (omega (arith, b, o .from), omega (arith, n, o .before-end, up-ge 4 (widthOf (o .argument)) (omega arith)))
+    ]
+
+    -- of the offsets of an argument only its own bytes are carried, and only if it has no floating register
+    only : (a : Argument sig) (x : ℕ) → endBefore a ≤ x → x < endAfter a → CarriedByte d sig (carrier x)
+        → (registerBehind d (a .before) (a .kind) ≡ 0) × (offsetOf a ≤ x) × (x < offsetOf a + widthOf a)
+    only a x h g m = go (own x m)
+      where
+        go : Own x → (registerBehind d (a .before) (a .kind) ≡ 0) × (offsetOf a ≤ x) × (x < offsetOf a + widthOf a)
+        go o = orders (ltb (length (a .before)) (length (o .argument .before))) (ltb (length (o .argument .before)) (length (a .before))) refl refl
+          where
+            orders : (t u : Bool) → ltb (length (a .before)) (length (o .argument .before)) ≡ t → ltb (length (o .argument .before)) (length (a .before)) ≡ u
+                → (registerBehind d (a .before) (a .kind) ≡ 0) × (offsetOf a ≤ x) × (x < offsetOf a + widthOf a)
+            orders true u e f = absurd (omega (arith, ordered a (o .argument) (ltb-true (length (a .before)) (length (o .argument .before)) e), own-lies o))
+            orders false true e f = absurd (omega (arith, ordered (o .argument) a (ltb-true (length (o .argument .before)) (length (a .before)) f), own-lies o))
+            orders false false e f =
+                let n : length (a .before) ≡ length (o .argument .before) =
+                omega (arith, ltb-false (length (a .before)) (length (o .argument .before)) e, ltb-false (length (o .argument .before)) (length (a .before)) f) in
+                let s : Same (a .before) (a .kind) (o .argument .before) (o .argument .kind) = same (a .before) (a .kind) (a .behind) (o .argument .before) (o .argument .kind) (o .argument .behind) (a .here ∙ sym (o .argument .here)) n in
+                rw (s .before-same, s .kind-same) (o .unfloated, o .from, o .before-end)
+
+    pub nothing : CarriesNothing d sig
+    nothing = record {
+      fill = λ a x h g m. elim (argument-lies a) [
+        | marker w z n ↦ omega (arith, w, z)
+        | laid b n ↦ omega (arith, only a x (omega (arith, b)) (omega (arith, n)) m .2)
+      ];
+      hole = λ a x h g m. elim (argument-lies a) [
+        | marker w z n ↦ omega (arith, z)
+        | laid b n ↦ omega (arith, only a x h (omega (arith, n)) m .1)
+      ];
+      beside = λ a r x h g m. elim (argument-lies a) [
+        | marker w z n ↦ omega (arith, w)
+        | laid b n ↦ omega (arith, only a x (omega (arith, b)) (omega (arith, n, up-ge 4 (widthOf a) (omega arith))) m .0)
+      ];
+      unused = λ x h m. let o : Own x = own x m in omega (arith, own-lies o, all-end (o .argument));
+      homes = λ p h g m. homes-empty p h g (where-is (m .0) p (m .1));
+      floats = λ g h l none p a b m. ungiven g h l none p a b (where-is (m .0) p (m .1));
+    }
+      where
+        homes-empty : (p : ℕ) → 32 ≤ p → p < 48 → {b : ArgumentByte sig} → Where d b p → ⊥
+        homes-empty p h g (at-offset x z e q) = elim (carrier-cases x) [ inl y ↦ omega arith | inr y ↦ omega arith ]
+        homes-empty p h g (in-float f w r s) = omega arith
+
+        ungiven : (g : ℕ) → 12 ≤ g → g < 16 → ((a : Argument sig) → GivenTo d a g → ⊥) → (p : ℕ) → 16 + 4 * (g - 12) ≤ p → p < 20 + 4 * (g - 12) → {b : ArgumentByte sig} → Where d b p → ⊥
+        ungiven g h l none p a c {b} (at-offset x z e q) = elim (carrier-cases x) [ inl y ↦ omega arith | inr y ↦ omega arith ]
+        ungiven g h l none p a c {b} (in-float f w r s) = let e : f ≡ g = omega arith in none (b .argument) (subst (GivenTo d (b .argument)) e w)
+
+-- at every accepted signature, on every device
+pub carries-nothing : (d : Device) (sig : List ℕ) (L : List Placed) (last : State) → plan (O32 d) false sig ≡ good L last → CarriesNothing d sig
+carries-nothing d sig L last ok = nothing d sig (walk-known d (walk-of (O32 d) (O32-laws d) sig start L last 0 ok))
