@@ -7,16 +7,15 @@ use Prim.Native.Nat.{ℕ, suc, _+_, _-_, _≤_}
 use native.Mathlib.Omega.{arith}
 use lib.ListN.{length, take, drop, replicate, length-append, length-replicate, take-append-drop}
 use lib.Seq.{take-at, drop-at, drop-nil, length-take-le}
-use lib.Dec.{T}
 use borrow.Author.Tests.{le-ltb}
-use Rattle.words.specs.Words.{promote, front, body, same}
-use Rattle.words.proofs.Bytes.{same-refl}
+use Rattle.words.specs.Words.{promote, front, body}
+use Rattle.words.proofs.Bytes.{same-true}
 use Rattle.carried.specs.Image.{gather, Placed, carried, promotedBytes, image, reading, done}
 use Rattle.carried.specs.Convention.{next, Convention, Plan, bad, good, also, from, plan}
 use Rattle.carried.specs.Demand.{Sized, kinds, OneEach, AllProper, Accepted, RoundTrip}
 use Rattle.carried.proofs.Places.{length-gather, gather-append, length-put, gather-put}
 use Rattle.carried.proofs.Plans.{by-records}
-use Rattle.carried.proofs.Walks.{laws-at, Laws, Walk, end, one, walked, walk-kinds, walk-one-each}
+use Rattle.carried.proofs.Walks.{laws-at, Laws, Walk, end, one, walk-by-kinds, walk-one-each}
 use Rattle.carried.proofs.Theorem.{theorem}
 
 -- ---- one record
@@ -26,10 +25,6 @@ body-of-promotion s b e =
     let f : List ℕ = front (s .extension) b in
     let n : length (f ++ b) - s .size ≡ length f = omega (arith, length-append f b) in
     rw n (drop-at f b (length f) refl)
-
-holds : (t : Bool) → T t → t ≡ true
-holds true h = refl
-holds false h = absurd h
 
 -- ---- a list that was planned: each record has its body, and the records are all of it
 
@@ -91,7 +86,7 @@ module _ (img : List ℕ) where
       let o : body (s .size) vs ≡ b = body-of-promotion s b lb in
       let r : Back L (drop (s .size) l) = back L (drop (s .size) l) (z .1) (w .2) (split-right (s .carriers) (carried L) vs (promotedBytes L (drop (s .size) l)) lv e) in
       record {
-        proper-all = (rw (g, o) (holds (same vs vs) (same-refl vs)), r .proper-all);
+        proper-all = (rw (g, o) (same-true vs), r .proper-all);
         same-list = ap₂ (λ (x : ℕ) (y : List ℕ). x ∷ y) (w .0) (ap₂ (λ (x y : List ℕ). x ++ y) (ap (body (s .size)) g ∙ o) (r .same-list) ∙ take-append-drop (s .size) l);
       }
 
@@ -99,9 +94,7 @@ module _ (img : List ℕ) where
 
 module _ (c : Convention) (laws : Laws c) (l : List ℕ) (L : List Placed) (last : c .State) (ok : plan c true l ≡ good L last) where
   the-walk : Walk c laws (c .start) (kinds L) L last
-  the-walk =
-      let w = walked c laws true l 0 0 (c .start) L last ok in
-      subst (λ (ks : List ℕ). Walk c laws (c .start) ks L last) (sym (walk-kinds c laws (w .walk))) (w .walk)
+  the-walk = walk-by-kinds c laws true l L last ok
 
   one-each : OneEach (c .imageLength last) L
   one-each = walk-one-each c laws the-walk

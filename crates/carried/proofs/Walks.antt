@@ -10,7 +10,7 @@ use lib.Dec.{ltb}
 use borrow.Author.Tests.{le-ltb}
 use Rattle.words.specs.Words.{promote, body}
 use Rattle.carried.specs.Image.{Placed, carried, reading}
-use Rattle.carried.specs.Convention.{Step, refuse, next, Convention, Plan, bad, good, also, behind, taken, after, from}
+use Rattle.carried.specs.Convention.{Step, refuse, next, Convention, Plan, bad, good, also, behind, taken, after, from, plan}
 use Rattle.carried.specs.Demand.{In, Distinct, Sized, kinds, OneEach}
 use Rattle.carried.proofs.Places.{in-cases, distinct-append}
 use Rattle.carried.proofs.Plans.{by-records}
@@ -84,6 +84,12 @@ module _ (c : Convention) (laws : Laws c) where
   pub walk-kinds : {st last : c .State} {ks : List ℕ} {L : List Placed} → Walk st ks L last → kinds L ≡ ks
   walk-kinds end = refl
   walk-kinds (one e f w) = ap₂ (λ (k : ℕ) (r : List ℕ). k ∷ r) (laws-at e .kind) (walk-kinds w)
+
+  -- what is accepted walks by its kinds
+  pub walk-by-kinds : (bodies : Bool) (l : List ℕ) (L : List Placed) (last : c .State) → plan c bodies l ≡ good L last → Walk (c .start) (kinds L) L last
+  walk-by-kinds bodies l L last e =
+      let w : Walked bodies 0 l (c .start) L last = walked bodies l 0 0 (c .start) L last e in
+      subst (λ (ks : List ℕ). Walk (c .start) ks L last) (sym (walk-kinds (w .walk))) (w .walk)
 
   walk-sized : {st last : c .State} {ks : List ℕ} {L : List Placed} → Walk st ks L last → Sized L
   walk-sized end = tt

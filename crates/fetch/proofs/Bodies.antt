@@ -10,6 +10,7 @@ use lib.Dec.{eqb, ltb}
 use lib.ListN.{length, take, drop}
 use borrow.Author.Tests.{eqb-true, eqb-false, eq-eqb, ne-eqb}
 use Rattle.words.specs.Words.{toWord, body, proper}
+use Rattle.words.proofs.Bytes.{body-whole, proper-whole}
 use Rattle.carried.specs.Image.{gather}
 use Rattle.carried.proofs.Places.{length-gather}
 use Rattle.o32.specs.declared.Class.the-variants.{Signed, Unsigned}
@@ -22,7 +23,7 @@ use Rattle.placement.proofs.KindFacts.{float-width}
 use Rattle.placement.specs.Fitting.{Fit, Floating}
 use Rattle.block.proofs.Floats.{bounds}
 use Rattle.block.proofs.Arguments.{Worded, Plain, body-fits}
-use Rattle.fetch.proofs.Parts.{gather-word, body-whole, body-part, proper-whole}
+use Rattle.fetch.proofs.Parts.{gather-word, body-part}
 
 carrier-le : (o : ℕ) → carrier o ≤ 32 + o
 carrier-le o = go (ltb o 16) refl

@@ -1,5 +1,4 @@
--- What an image holds at bytes that lie together is a part of it. The body in a part is its end, and a part that promotion adds
--- nothing to is proper.
+-- What an image holds at bytes that lie together is a part of it. The body in a part is its end.
 -- Assumes nothing.
 use mathlib.Core.Path.{_≡_, refl, sym, ap, ap₂, _∙_}
 use mathlib.Core.List.{List, [], _∷_, _++_, map}
@@ -8,12 +7,10 @@ use Prim.Native.Nat.{ℕ, zero, suc, _+_, _-_, _*_, _%_, _≤_}
 use native.Mathlib.Omega.{arith}
 use native.Mathlib.Nat.{sub-add-cancel}
 use lib.Dec.{ltb}
-use lib.Ieee.Bits.{is-true}
 use lib.ListN.{length, take, drop, length-drop}
 use lib.Seq.{length-take-le, drop-cons, drop-at, drop-drop, take-add}
 use borrow.Author.Tests.{ltb-true, ltb-false}
-use Rattle.words.specs.Words.{zeros, body, same, proper}
-use Rattle.words.proofs.Bytes.{same-refl}
+use Rattle.words.specs.Words.{body}
 use Rattle.carried.specs.Image.{gather, put}
 use Rattle.carried.proofs.Places.{gather-append, put-append}
 use Rattle.o32.specs.O32.{run, registerBytes, carrier}
@@ -76,10 +73,7 @@ module _ (img out out′ : List ℕ) (f p to : ℕ) (first : out′ ≡ put out 
       read-behind img out out′ out″ 4 4 p q to inside h first second
       ∙ ap₂ (λ (x y : ℕ). put out (run to 8) (gather img (run x 4 ++ run y 4))) at e
 
--- ---- the body in bytes, and whether they are proper
-
-pub body-whole : (n : ℕ) (bs : List ℕ) → length bs ≡ n → body n bs ≡ bs
-body-whole n bs e = let z : length bs - n ≡ 0 = omega arith in rw z
+-- ---- the body in bytes
 
 pub body-part : (img : List ℕ) (n size p : ℕ) → size ≤ n → p + n ≤ length img → body size (take n (drop p img)) ≡ take size (drop (p + (n - size)) img)
 body-part img n size p h l =
@@ -90,6 +84,3 @@ body-part img n size p h l =
     ap (λ (k : ℕ). take k part) (sym (sub-add-cancel h)) ∙ take-add (n - size) size part in
     let first : length (take (n - size) part) ≡ n - size = length-take-le (n - size) part (omega arith) in
     rw (all, ends, drop-at (take (n - size) part) (take size (drop (n - size) part)) (n - size) first, drop-drop)
-
-pub proper-whole : (n : ℕ) (bs : List ℕ) → length bs ≡ n → proper (zeros 0) n bs ≡ true
-proper-whole n bs e = rw (body-whole n bs e) (is-true (same bs bs) (same-refl bs))

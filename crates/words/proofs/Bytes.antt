@@ -11,7 +11,8 @@ use lib.Pow.{pow-add}
 use lib.ListN.{length, getD, set, take, drop, replicate, length-append, replicate-append-replicate}
 use lib.Seq.{sets, take-at, drop-at}
 use lib.Dec.{T, eqb, ltb, eqb→eq, eqb-refl, ltb→lt, lt→ltb}
-use Rattle.words.specs.Words.{bytesOf, same}
+use lib.Ieee.Bits.{is-true}
+use Rattle.words.specs.Words.{bytesOf, zeros, body, same, proper}
 
 -- there are as many bytes as asked for
 pub length-bytes : (n x : ℕ) → length (bytesOf n x) ≡ n
@@ -117,6 +118,16 @@ same→eq (x ∷ xs) (y ∷ ys) t =
 pub same-refl : (xs : List ℕ) → T (same xs xs)
 same-refl [] = tt
 same-refl (x ∷ xs) = together (eqb x x) (same xs xs) (eqb-refl x) (same-refl xs)
+
+pub same-true : (xs : List ℕ) → same xs xs ≡ true
+same-true xs = is-true (same xs xs) (same-refl xs)
+
+-- bytes that promotion adds nothing to are their own body, and a proper promotion
+pub body-whole : (n : ℕ) (bs : List ℕ) → length bs ≡ n → body n bs ≡ bs
+body-whole n bs e = let z : length bs - n ≡ 0 = omega arith in rw z
+
+pub proper-whole : (n : ℕ) (bs : List ℕ) → length bs ≡ n → proper (zeros 0) n bs ≡ true
+proper-whole n bs e = rw (body-whole n bs e) (same-true bs)
 
 -- so of the bytes of two numbers it tests whether these are equal
 pub same-eqb : (n x y : ℕ) → x < 256 ^ n → y < 256 ^ n → same (bytesOf n x) (bytesOf n y) ≡ eqb x y
