@@ -48,13 +48,13 @@ argument-le st k = go (is Unknown k || is Marker k)
     go false = omega arith
 
 -- a marker stands at most once
-unmarked : (t m a b : Bool) → (t && (m || a)) || b ≡ false → t ≡ true → m ≡ false
+pub unmarked : (t m a b : Bool) → (t && (m || a)) || b ≡ false → t ≡ true → m ≡ false
 unmarked true true a b e f = e
 unmarked true false a b e f = refl
 unmarked false m a b e f = cc
 
 -- an argument that is placed is at most the 32nd
-not-full : (t a : Bool) → not t && a ≡ false → t ≡ false → a ≡ false
+pub not-full : (t a : Bool) → not t && a ≡ false → t ≡ false → a ≡ false
 not-full true a e f = cc
 not-full false a e f = e
 

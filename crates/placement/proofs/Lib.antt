@@ -7,3 +7,4 @@ pub mod Bounds
 pub mod Numbering
 pub mod Bytes
 pub mod Nothing
+pub mod Refusing

@@ -1,0 +1,318 @@
+-- Refusals 1 to 5 exactly on their conditions, by the kinds before the place, on every device.
+-- Assumes nothing.
+use mathlib.Core.Path.{_≡_, refl, sym, ap, _∙_, subst}
+use mathlib.Core.Logic.{_⊎_, _↔_, inl, inr}
+use mathlib.Core.List.{List, [], _∷_, _++_}
+use mathlib.Core.Bool.{Bool, true, false, cond, not, _&&_, _||_}
+use Prim.Native.Nat.{ℕ, _+_, _-_, _≤_, _<_}
+use native.Mathlib.Omega.{arith}
+use lib.ListN.{length, getD, take}
+use lib.Dec.{eqb, leb, ltb}
+use borrow.Author.Tests.{eqb-true, eqb-false, ltb-true, ltb-false, leb-true, leb-false, le-leb, ne-eqb}
+use Rattle.device.specs.declared.Device.{Device}
+use Rattle.carried.specs.Image.{Placed}
+use Rattle.carried.specs.Convention.{Step, refuse, next, Plan, bad, good, behind, limited, taken, plan}
+use Rattle.carried.specs.Demand.{kinds}
+use Rattle.carried.proofs.Walks.{Walk, end, one, walk-by-kinds, walk-fits}
+use Rattle.carried.proofs.Refusals.{StopsAt, plan-stops}
+use Rattle.o32.specs.declared.Class.the-variants.{Unknown, Marker, Pointer}
+use Rattle.o32.specs.declared.Kind.{Kind}
+use Rattle.o32.specs.declared.State.{State}
+use Rattle.o32.specs.declared.Placement.{Placement}
+use Rattle.o32.specs.Kinds.{kindOf, is, classNumber}
+use Rattle.o32.specs.Offsets.{ending}
+use Rattle.o32.specs.O32 as O
+use Rattle.o32.specs.O32.{onward, argument, placement, start, O32}
+use Rattle.placement.specs.Carrying.{endOf}
+use Rattle.placement.specs.Refusing.{countOf, argumentsIn, argumentBehind, Misplaced, Condition, unknown, misplaced, full, cut, beyond, Accepted, RefusedAt}
+use Rattle.placement.proofs.Laws.{O32-laws}
+use Rattle.placement.proofs.Steps.{Stepped, step-says}
+use Rattle.placement.proofs.Carrying.{reach, reach-end}
+use Rattle.placement.proofs.Numbering.{reach-count, number-behind, walk-reach}
+use Rattle.placement.proofs.Bounds.{unmarked, not-full, step-grows}
+
+-- ---- what the state behind accepted kinds has of them
+
+-- a return pointer that is not misplaced is first
+first-pointer : (t a p z : Bool) → (t && a) || (p && not z) ≡ false → p ≡ true → z ≡ true
+first-pointer true true p z e f = cc
+first-pointer true false true true e f = refl
+first-pointer true false true false e f = cc
+first-pointer true false false z e f = cc
+first-pointer false a true true e f = refl
+first-pointer false a true false e f = cc
+first-pointer false a false z e f = cc
+
+no-pointer : (k : Kind) → is Marker k ≡ true → is Pointer k ≡ false
+no-pointer k e = rw (eqb-true (classNumber (k .class)) 1 e)
+
+or-false : (b : Bool) → b || false ≡ b
+or-false true = refl
+or-false false = refl
+
+-- a flag, as a count
+abbrev bit : Bool → ℕ
+bit t = cond t 1 0
+
+module _ (d : Device) where
+  record Counted (st : State) (k : Kind) (st′ : State) : Type 0 where
+    markers : bit (st′ .marked) ≡ bit (st .marked) + bit (is Marker k)
+    pointers : bit (st′ .pointer) ≡ bit (st .pointer) + bit (is Pointer k)
+    few : bit (st′ .pointer) ≤ st′ .count
+
+  counted : (st : State) (k : Kind) {j : ℕ} {p : Placement} {st′ : State} → Stepped d st k j p st′ → bit (st .pointer) ≤ st .count → Counted st k st′
+  counted st k s h = rw (s .on) (go (is Marker k) (is Pointer k) refl refl)
+    where
+      unpointed : (t : Bool) → bit t ≤ 0 → t ≡ false
+      unpointed true h = absurd (omega arith)
+      unpointed false h = refl
+
+      go : (t u : Bool) → is Marker k ≡ t → is Pointer k ≡ u → Counted st k (onward st k)
+      go true u e f =
+          let m : st .marked ≡ false = unmarked (is Marker k) (st .marked) _ _ (s .rightly) e in
+          record { markers = rw (e, m) refl; pointers = rw (e, no-pointer k e) (omega arith); few = rw e h }
+      go false true e f =
+          let z : st .count ≡ 0 = eqb-true (st .count) 0 (first-pointer (is Marker k) _ (is Pointer k) (eqb (st .count) 0) (s .rightly) f) in
+          let n : st .pointer ≡ false = unpointed (st .pointer) (omega arith) in
+          record { markers = rw e (omega arith); pointers = rw (e, f, n) refl; few = rw (e, f, n) (omega arith) }
+      go false false e f = record { markers = rw e (omega arith); pointers = rw (e, f, or-false (st .pointer)) (omega arith); few = rw (e, f, or-false (st .pointer)) (omega arith) }
+
+  record Behind (st : State) (ks : List ℕ) (last : State) : Type 0 where
+    markers : bit (last .marked) ≡ bit (st .marked) + countOf Marker ks
+    pointers : bit (last .pointer) ≡ bit (st .pointer) + countOf Pointer ks
+    few : st .count ≤ 32 → last .count ≤ 32
+
+  state-behind : {st last : State} {ks : List ℕ} {L : List Placed} → Walk (O32 d) (O32-laws d) st ks L last → bit (st .pointer) ≤ st .count → Behind st ks last
+  state-behind end h = record { markers = omega arith; pointers = omega arith; few = λ g. g }
+  state-behind (one {st = st} {st′ = st′} {k = k} {j = j} {p = p} {ks = ks} e f w) h =
+      let c : Counted st (kindOf k) st′ = counted st (kindOf k) (step-says d st k j p st′ e) h in
+      let r = state-behind w (c .few) in
+      record {
+        markers = omega (arith, c .markers, r .markers);
+        pointers = omega (arith, c .pointers, r .pointers);
+        few = λ g. r .few (step-grows d st k e .few g);
+      }
+
+-- ---- the conditions at a kind behind accepted ones
+
+pointers-le : (ks : List ℕ) → countOf Pointer ks ≤ argumentsIn ks
+pointers-le [] = omega arith
+pointers-le (k ∷ ks) = go (pointers-le ks) (is Marker (kindOf k)) (is Pointer (kindOf k)) refl refl
+  where
+    go : countOf Pointer ks ≤ argumentsIn ks → (t u : Bool) → is Marker (kindOf k) ≡ t → is Pointer (kindOf k) ≡ u
+        → bit (is Pointer (kindOf k)) + countOf Pointer ks ≤ cond (is Marker (kindOf k)) 0 1 + argumentsIn ks
+    go h true u e f = rw (e, no-pointer (kindOf k) e) (omega arith)
+    go h false true e f = rw (e, f) (omega arith)
+    go h false false e f = rw (e, f) (omega arith)
+
+is-set : (t : Bool) → 1 ≤ bit t → t ≡ true
+is-set true h = refl
+is-set false h = absurd (omega arith)
+
+clash : {A : Type 0} → false ≡ true → A
+clash e = let x : _≡_ {A = ℕ} 0 1 = cc in absurd (omega arith)
+
+-- refusal 2's test, taken apart: it is this, or fails
+abbrev Apart : Bool → Bool → Bool → Bool → Bool → Type 0
+Apart a b c p z = ((a ≡ true) × ((b ≡ true) ⊎ (c ≡ true))) ⊎ ((p ≡ true) × (z ≡ false))
+
+test-apart : (a b c p z : Bool) → (a && (b || c)) || (p && not z) ≡ true → Apart a b c p z
+test-apart true true c p z e = inl (refl, inl refl)
+test-apart true false true p z e = inl (refl, inr refl)
+test-apart true false false true true e = clash e
+test-apart true false false true false e = inr (refl, refl)
+test-apart true false false false z e = clash e
+test-apart false b c true true e = clash e
+test-apart false b c true false e = inr (refl, refl)
+test-apart false b c false z e = clash e
+
+apart-test : (a b c p z : Bool) → Apart a b c p z → (a && (b || c)) || (p && not z) ≡ true
+apart-test true true c p z h = refl
+apart-test true false true p z h = refl
+apart-test true false false p z (inl h) = elim (h .1) [ inl x ↦ clash x | inr x ↦ clash x ]
+apart-test true false false p z (inr h) = rw (h .0, h .1) refl
+apart-test false b c p z (inl h) = clash (h .0)
+apart-test false b c p z (inr h) = rw (h .0, h .1) refl
+
+-- ---- what the step and the limits answer at a kind behind accepted ones
+
+module _ (d : Device) {ks : List ℕ} {L : List Placed} {last : State} (w : Walk (O32 d) (O32-laws d) start ks L last) where
+  count-is : last .count ≡ argumentsIn ks
+  count-is = ap (λ (s : State). s .count) (walk-reach d w) ∙ reach-count start ks ∙ omega arith
+
+  end-is : last .end ≡ endOf 0 ks
+  end-is = ap (λ (s : State). s .end) (walk-reach d w) ∙ reach-end ks start
+
+  so : Behind d start ks last
+  so = state-behind d w (omega arith)
+
+  module _ (k : ℕ) where
+    number-is : argument last (kindOf k) ≡ argumentBehind ks k
+    number-is = ap (λ (s : State). argument s (kindOf k)) (walk-reach d w) ∙ number-behind ks k
+
+    abbrev tested : Type 0
+    tested = Apart (is Marker (kindOf k)) (last .marked) (leb (last .count) (bit (last .pointer))) (is Pointer (kindOf k)) (eqb (last .count) 0)
+
+    misplaced-so : tested → Misplaced ks k
+    misplaced-so (inl h) = inl (h .0, elim (h .1) [
+      | inl x ↦ inl (omega (arith, so .markers, ap bit x))
+      | inr x ↦ inr (omega (arith, so .pointers, count-is, pointers-le ks, leb-true (last .count) (bit (last .pointer)) x))
+    ])
+    misplaced-so (inr h) = inr (h .0, omega (arith, count-is, eqb-false (last .count) 0 (h .1)))
+
+    so-misplaced : Misplaced ks k → tested
+    so-misplaced (inl h) = inl (h .0, elim (h .1) [
+      | inl x ↦ inl (is-set (last .marked) (omega (arith, so .markers)))
+      | inr x ↦ inr (le-leb (last .count) (bit (last .pointer)) (omega (arith, so .pointers, count-is)))
+    ])
+    so-misplaced (inr h) = inr (h .0, ne-eqb (last .count) 0 (λ e. omega (arith, count-is, h .1)))
+
+    module _ (bodies : Bool) (left : ℕ) where
+      -- no condition with a number below r holds
+      record Passed (r : ℕ) : Type 0 where
+        one : 1 < r → is Unknown (kindOf k) ≡ true → ⊥
+        two : 2 < r → Misplaced ks k → ⊥
+        three : 3 < r → is Marker (kindOf k) ≡ false → argumentsIn ks ≡ 32 → ⊥
+        four : 4 < r → bodies ≡ true → left < kindOf k .size → ⊥
+        five : 5 < r → is Marker (kindOf k) ≡ false → 1024 < ending (kindOf k) (endOf 0 ks) → ⊥
+
+      passed : {r : ℕ} → Passed r → (q : ℕ) → q < r → Condition bodies ks k left q → ⊥
+      passed v q h (unknown e x) = v .one (omega arith) x
+      passed v q h (misplaced e x) = v .two (omega arith) x
+      passed v q h (full e x y) = v .three (omega arith) x y
+      passed v q h (cut e x y) = v .four (omega arith) x y
+      passed v q h (beyond e x y) = v .five (omega arith) x y
+
+      -- where the tests with a number below r fail
+      untrue : (b : Bool) → b ≡ false → b ≡ true → ⊥
+      untrue b e f = clash (sym e ∙ f)
+
+      onward-end : is Marker (kindOf k) ≡ false → onward last (kindOf k) .end ≡ ending (kindOf k) (endOf 0 ks)
+      onward-end e = rw (e, end-is) refl
+
+      tests-passed : (r : ℕ) → (1 < r → is Unknown (kindOf k) ≡ false) → (2 < r → O.misplaced last (kindOf k) ≡ false) → (3 < r → O.full last (kindOf k) ≡ false)
+          → (4 < r → ltb left (behind bodies (kindOf k .size)) ≡ false) → (5 < r → leb (onward last (kindOf k) .end) 1024 ≡ true) → Passed r
+      tests-passed r a b c e f = record {
+        one = λ h x. untrue (is Unknown (kindOf k)) (a h) x;
+        two = λ h x. untrue (O.misplaced last (kindOf k)) (b h) (apart-test (is Marker (kindOf k)) (last .marked) _ (is Pointer (kindOf k)) _ (so-misplaced x));
+        three = λ h x y. omega (arith, count-is, leb-false 32 (last .count) (not-full (is Marker (kindOf k)) (leb 32 (last .count)) (c h) x));
+        four = λ h x y. let z : ltb left (kindOf k .size) ≡ false = rw x at (e h) in omega (arith, ltb-false left (kindOf k .size) z);
+        five = λ h x y. omega (arith, leb-true (onward last (kindOf k) .end) 1024 (f h), onward-end x);
+      }
+
+      abbrev Judged : Step Placement State → Type 0
+      Judged (refuse r j) = Condition bodies ks k left r × Passed r × (j ≡ argumentBehind ks k)
+      Judged (next j p st) = Passed 6
+
+      is-full : (t : Bool) → is Marker (kindOf k) ≡ t → not t && leb 32 (last .count) ≡ true → Condition bodies ks k left 3
+      is-full true e f = clash f
+      is-full false e f = full refl e (omega (arith, count-is, so .few (omega arith), leb-true 32 (last .count) f))
+
+      is-cut : (t : Bool) → bodies ≡ t → ltb left (behind t (kindOf k .size)) ≡ true → Condition bodies ks k left 4
+      is-cut true e f = cut refl e (ltb-true left (kindOf k .size) f)
+      is-cut false e f = absurd (omega (arith, ltb-true left 0 f))
+
+      within : last .end ≤ 1024
+      within = leb-true (last .end) 1024 (walk-fits (O32 d) (O32-laws d) w refl)
+
+      is-beyond : (t : Bool) → is Marker (kindOf k) ≡ t → leb (onward last (kindOf k) .end) 1024 ≡ false → Condition bodies ks k left 5
+      is-beyond true e f =
+          let z : onward last (kindOf k) .end ≡ last .end = rw e refl in
+          absurd (omega (arith, within, leb-false (onward last (kindOf k) .end) 1024 f))
+      is-beyond false e f = beyond refl e (omega (arith, onward-end e, leb-false (onward last (kindOf k) .end) 1024 f))
+
+      judged : Judged (taken (O32 d) bodies left last k)
+      judged = go (is Unknown (kindOf k)) (O.misplaced last (kindOf k)) (O.full last (kindOf k)) refl refl refl
+        where
+          limits : (t u : Bool) → is Unknown (kindOf k) ≡ false → O.misplaced last (kindOf k) ≡ false → O.full last (kindOf k) ≡ false
+              → ltb left (behind bodies (kindOf k .size)) ≡ t → leb (onward last (kindOf k) .end) 1024 ≡ u
+              → Judged (cond t (refuse 4 (argument last (kindOf k))) (cond u (next (argument last (kindOf k)) (placement d last (kindOf k)) (onward last (kindOf k))) (refuse 5 (argument last (kindOf k)))))
+          limits true u x y z e f = (is-cut bodies refl e, tests-passed 4 (λ h. x) (λ h. y) (λ h. z) (λ h. absurd (omega arith)) (λ h. absurd (omega arith)), number-is)
+          limits false false x y z e f = (is-beyond (is Marker (kindOf k)) refl f, tests-passed 5 (λ h. x) (λ h. y) (λ h. z) (λ h. e) (λ h. absurd (omega arith)), number-is)
+          limits false true x y z e f = tests-passed 6 (λ h. x) (λ h. y) (λ h. z) (λ h. e) (λ h. f)
+
+          go : (u m f : Bool) → is Unknown (kindOf k) ≡ u → O.misplaced last (kindOf k) ≡ m → O.full last (kindOf k) ≡ f
+              → Judged (limited (O32 d) bodies left k (cond u (refuse 1 (argument last (kindOf k))) (cond m (refuse 2 (argument last (kindOf k))) (cond f (refuse 3 (argument last (kindOf k)))
+              (next (argument last (kindOf k)) (placement d last (kindOf k)) (onward last (kindOf k)))))))
+          go true m f x y z =
+              (unknown refl x, tests-passed 1 (λ h. absurd (omega arith)) (λ h. absurd (omega arith)) (λ h. absurd (omega arith)) (λ h. absurd (omega arith)) (λ h. absurd (omega arith)), number-is)
+          go false true f x y z = (
+            misplaced refl (misplaced-so (test-apart (is Marker (kindOf k)) (last .marked) _ (is Pointer (kindOf k)) _ y)),
+            tests-passed 2 (λ h. x) (λ h. absurd (omega arith)) (λ h. absurd (omega arith)) (λ h. absurd (omega arith)) (λ h. absurd (omega arith)),
+            number-is,
+          )
+          go false false true x y z =
+              (is-full (is Marker (kindOf k)) refl z, tests-passed 3 (λ h. x) (λ h. y) (λ h. absurd (omega arith)) (λ h. absurd (omega arith)) (λ h. absurd (omega arith)), number-is)
+          go false false false x y z = limits (ltb left (behind bodies (kindOf k .size))) (leb (onward last (kindOf k) .end) 1024) x y z refl refl
+
+      -- so it is refused r exactly when the condition of r is the first that holds
+      refused-first : (r j : ℕ) → (taken (O32 d) bodies left last k ≡ refuse r j)
+          ↔ (Condition bodies ks k left r × ((q : ℕ) → q < r → Condition bodies ks k left q → ⊥) × (j ≡ argumentBehind ks k))
+      refused-first r j = (
+        (λ e. let v : Judged (refuse r j) = subst Judged e judged in (v .0, passed (v .1), v .2)),
+        λ h. go (taken (O32 d) bodies left last k) judged (h .0) (h .1) (h .2),
+      )
+        where
+          at-most : {q : ℕ} → Condition bodies ks k left q → q < 6
+          at-most (unknown e x) = omega arith
+          at-most (misplaced e x) = omega arith
+          at-most (full e x y) = omega arith
+          at-most (cut e x y) = omega arith
+          at-most (beyond e x y) = omega arith
+
+          go : (s : Step Placement State) → Judged s → Condition bodies ks k left r → ((q : ℕ) → q < r → Condition bodies ks k left q → ⊥) → j ≡ argumentBehind ks k → s ≡ refuse r j
+          go (refuse r′ j′) v h f n = orders (ltb r r′) (ltb r′ r) refl refl
+            where
+              orders : (t u : Bool) → ltb r r′ ≡ t → ltb r′ r ≡ u → _≡_ {A = Step Placement State} (refuse r′ j′) (refuse r j)
+              orders true u x y = absurd (passed (v .1) r (ltb-true r r′ x) h)
+              orders false true x y = absurd (f r′ (ltb-true r′ r y) (v .0))
+              orders false false x y =
+                  let e : r′ ≡ r = omega (arith, ltb-false r r′ x, ltb-false r′ r y) in
+                  let g : j′ ≡ j = v .2 ∙ sym n in
+                  rw (e, g) refl
+          go (next j′ p st) v h f n = absurd (passed v r (at-most h) h)
+
+-- ---- a list or a signature
+
+module _ (d : Device) (bodies : Bool) (l : List ℕ) where
+  -- Refusals 1 to 5 are given exactly on their conditions,
+  pub refused-exactly : (r place j : ℕ) → (plan (O32 d) bodies l ≡ bad r place j) ↔ RefusedAt d bodies l r place j
+  refused-exactly r place j = (
+    (λ e.
+        let s : StopsAt (O32 d) bodies l r place j = plan-stops (O32 d) bodies l r place j .0 e in
+        let w : Walk (O32 d) (O32-laws d) start (kinds (s .before)) (s .before) (s .last) = walk-by-kinds (O32 d) (O32-laws d) bodies (take place l) (s .before) (s .last) (s .accepted) in
+        let v = refused-first d w (getD l place 0) bodies (length l - (place + 1)) r j .0 (s .refusal) in
+        record {
+          inside = s .inside;
+          before = kinds (s .before);
+          accepted = record { placed = s .before; last = s .last; planned = s .accepted; are = refl };
+          holds = v .0;
+          first = v .1;
+          number = v .2;
+        }),
+    λ v.
+        let a = v .accepted in
+        let w : Walk (O32 d) (O32-laws d) start (v .before) (a .placed) (a .last) =
+        subst (λ (ks : List ℕ). Walk (O32 d) (O32-laws d) start ks (a .placed) (a .last)) (a .are) (walk-by-kinds (O32 d) (O32-laws d) bodies (take place l) (a .placed) (a .last) (a .planned)) in
+        plan-stops (O32 d) bodies l r place j .1 (record {
+          inside = v .inside;
+          before = a .placed;
+          last = a .last;
+          accepted = a .planned;
+          refusal = refused-first d w (getD l place 0) bodies (length l - (place + 1)) r j .1 (v .holds, v .first, v .number);
+        }),
+  )
+
+  -- and there is none exactly when all records are accepted.
+  pub accepted-exactly : ((ks : List ℕ) × Accepted d bodies l ks) ↔ ((r place j : ℕ) → RefusedAt d bodies l r place j → ⊥)
+  accepted-exactly = (there, λ h. back (plan (O32 d) bodies l) refl h)
+    where
+      there : ((ks : List ℕ) × Accepted d bodies l ks) → (r place j : ℕ) → RefusedAt d bodies l r place j → ⊥
+      there a r place j v =
+          let e : plan (O32 d) bodies l ≡ bad r place j = refused-exactly r place j .1 v in
+          let z : _≡_ {A = ℕ} 0 1 = cc (a .1 .planned) in
+          omega arith
+
+      back : (q : Plan State) → plan (O32 d) bodies l ≡ q → ((r place j : ℕ) → RefusedAt d bodies l r place j → ⊥) → (ks : List ℕ) × Accepted d bodies l ks
+      back (bad r place j) e h = absurd (h r place j (refused-exactly r place j .0 e))
+      back (good L last) e h = (kinds L, record { placed = L; last = last; planned = e; are = refl })
