@@ -6,4 +6,5 @@ pub mod Theorem
 pub mod Records
 pub mod RoundTrip
 pub mod Refusals
+pub mod Splits
 pub mod Carriers

@@ -18,11 +18,11 @@ use Rattle.o32.specs.declared.Class.the-variants.{Float}
 use Rattle.o32.specs.declared.State.{State}
 use Rattle.o32.specs.Kinds.{kindOf, is}
 use Rattle.o32.specs.Offsets.{width, offset}
-use Rattle.o32.specs.O32.{O32, area}
+use Rattle.o32.specs.O32.{O32, area, argument, start}
 use Rattle.placement.specs.Carrying.{endOf, registerBehind, CarriedAt, Carries, low, high, single, odd, even, Argument, ArgumentByte, CarriedBy, CarriedByte}
 use Rattle.placement.proofs.KindFacts.{kind-sound, float-width}
 use Rattle.placement.proofs.Laws.{O32-carried}
-use Rattle.placement.proofs.Carrying.{floats-only, carried-at}
+use Rattle.placement.proofs.Carrying.{reach, floats-only, placed-behind, carried-at}
 
 -- ---- one argument
 
@@ -70,33 +70,44 @@ module _ (d : Device) (sig : List ℕ) (L : List Placed) (last : State) (ok : pl
   the : Carried (O32 d) sig L (32 + area (last .end))
   the = O32-carried d sig L last ok
 
-  -- the record of an argument
+  -- the record of an argument, placed by the kinds before it
+  abbrev pub recordOf : Argument sig → Placed
+  recordOf a = O32 d .placedAt (a .kind) (argument (reach start (a .before)) (kindOf (a .kind)))
+      (record { kind = kindOf (a .kind); offset = offset (kindOf (a .kind)) (endOf 0 (a .before)); register = registerBehind d (a .before) (a .kind) })
+
   pub record Of (a : Argument sig) : Type 0 where
     pub among : Among L
     pub long : length (among .before) ≡ length (a .before)
+    pub placed-so : among .here ≡ recordOf a
     pub carried-so : CarriedAt d (a .before) (a .kind) (among .here)
 
   pub of : (a : Argument sig) → Of a
   of a =
       let w : OfKind L (a .before) (a .kind) (a .behind) = of-kind L (a .before) (a .kind) (a .behind) (the .signature ∙ sym (a .here)) in
       let n : length (w .among .before) ≡ length (a .before) = sym (length-kinds (w .among .before)) ∙ ap length (w .kinds-before) in
+      let ok′ : plan (O32 d) false (a .before ++ (a .kind ∷ a .behind)) ≡ good L last = ap (plan (O32 d) false) (a .here) ∙ ok in
       record {
         among = w .among;
         long = n;
-        carried-so = carried-at d (a .before) (a .kind) (a .behind) L last (ap (plan (O32 d) false) (a .here) ∙ ok) (w .among .before) (w .among .here) (w .among .behind) (w .among .records) n;
+        placed-so = placed-behind d (a .before) (a .kind) (a .behind) L last ok′ (w .among .before) (w .among .here) (w .among .behind) (w .among .records) n;
+        carried-so = carried-at d (a .before) (a .kind) (a .behind) L last ok′ (w .among .before) (w .among .here) (w .among .behind) (w .among .records) n;
       }
 
   -- the argument of a record
-  pub argument-of : Among L → Argument sig
+  abbrev pub argument-of : Among L → Argument sig
   argument-of w = record {
     before = kinds (w .before);
     kind = w .here .kind;
     behind = kinds (w .behind);
-    here = sym (kinds-append (w .before) (w .here ∷ w .behind)) ∙ ap kinds (sym (w .records)) ∙ the .signature;
+    here = sym (kinds-append (w .before) (w .here ∷ w .behind)) ∙ ap kinds (sym (w .records)) ∙ O32-carried d sig L last ok .signature;
   }
 
+  pub among-so : (w : Among L) → w .here ≡ recordOf (argument-of w)
+  among-so w =
+      placed-behind d (kinds (w .before)) (w .here .kind) (kinds (w .behind)) L last (ap (plan (O32 d) false) (argument-of w .here) ∙ ok) (w .before) (w .here) (w .behind) (w .records)
+      (sym (length-kinds (w .before)))
+
   among-as : (w : Among L) → CarriedAt d (kinds (w .before)) (w .here .kind) (w .here)
-  unfolding argument-of
   among-as w =
       carried-at d (kinds (w .before)) (w .here .kind) (kinds (w .behind)) L last (ap (plan (O32 d) false) (argument-of w .here) ∙ ok) (w .before) (w .here) (w .behind) (w .records)
       (sym (length-kinds (w .before)))
@@ -111,7 +122,6 @@ module _ (d : Device) (sig : List ℕ) (L : List Placed) (last : State) (ok : pl
       }
 
   pub carried-exactly : (p : ℕ) → CarriedByte d sig p ↔ In p (carried L)
-  unfolding argument-of
   carried-exactly p = (
     (λ h. carrier-in L p (carrier-at (h .0) p (h .1))),
     λ m.

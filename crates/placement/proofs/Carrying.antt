@@ -189,6 +189,13 @@ floats-only Fpu (j ∷ []) k h = go (is Float (kindOf j)) (is Float (kindOf k)) 
     go false false h = absurd (omega arith)
 floats-only Fpu (j ∷ i ∷ js) k h = absurd (omega arith)
 
+pub unfloated : (d : Device) (before : List ℕ) (k : ℕ) → is Float (kindOf k) ≡ false → registerBehind d before k ≡ 0
+unfloated d before k f = go (registerBehind d before k) refl
+  where
+    go : (r : ℕ) → registerBehind d before k ≡ r → registerBehind d before k ≡ 0
+    go zero e = e
+    go (suc r) e = let z : true ≡ false = rw (floats-only d before k (omega arith)) at f in cc
+
 -- ---- the law
 
 module _ (d : Device) (before : List ℕ) (k j : ℕ) (s : Placed)
@@ -256,14 +263,10 @@ structure-in-runs d before k behind L last ok M s N e h = record {
   behind = λ g o n x y l. cs g o n x y ∙ span-high n o l;
 }
   where
-    no-register : (r : ℕ) → registerBehind d before k ≡ r → is Float (kindOf k) ≡ false → registerBehind d before k ≡ 0
-    no-register zero e f = e
-    no-register (suc r) e f = let z : true ≡ false = rw (floats-only d before k (omega arith)) at f in cc
-
     cs : 0x40 ≤ k → (o n : ℕ) → o ≡ offset (kindOf k) (endOf 0 before) → n ≡ kindOf k .size → s .carriers ≡ span o n
     cs g o n x y =
         by-offset d before k _ s (placed-behind d before k behind L last ok M s N e h)
-        (no-register (registerBehind d before k) refl (structure k g .no-float))
+        (unfloated d before k (structure k g .no-float))
         ∙ rw (x, y) (ap (span (offset (kindOf k) (endOf 0 before))) (unpromoted-width (kindOf k) (structure k g .unpromoted)))
 
 -- ---- without a floating-point unit

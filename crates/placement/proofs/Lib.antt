@@ -8,3 +8,4 @@ pub mod Numbering
 pub mod Bytes
 pub mod Nothing
 pub mod Refusing
+pub mod Improper

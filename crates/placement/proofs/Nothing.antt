@@ -15,6 +15,7 @@ use Rattle.device.specs.declared.Device.{Device}
 use Rattle.device.specs.declared.Device.the-variants.{Fpu, NoFpu}
 use Rattle.carried.specs.Image.{Placed}
 use Rattle.carried.specs.Convention.{good, plan}
+use Rattle.carried.proofs.Splits.{Later, later, Same, same}
 use Rattle.carried.proofs.Walks.{Walk, end, one, walk-of}
 use Rattle.o32.specs.declared.Class.the-variants.{Unknown, Marker, Float}
 use Rattle.o32.specs.declared.State.{State}
@@ -74,34 +75,6 @@ end-grows (k ∷ ks) e h = elim (lies e k (h .0)) [
   | marker w o n ↦ omega (arith, n, end-grows ks (next-end e k) (h .1))
   | laid b n ↦ omega (arith, b, n, end-grows ks (next-end e k) (h .1))
 ]
-
--- ---- two kinds of one signature
-
--- the later of two has the earlier one before it
-record Later (xs : List ℕ) (k : ℕ) (ys : List ℕ) : Type 0 where
-  between : List ℕ
-  before : ys ≡ xs ++ (k ∷ between)
-
-later : (xs : List ℕ) (k : ℕ) (us ys : List ℕ) (j : ℕ) (vs : List ℕ) → xs ++ (k ∷ us) ≡ ys ++ (j ∷ vs) → length xs < length ys → Later xs k ys
-later xs k us [] j vs e h = absurd (omega arith)
-later [] k us (y ∷ ys) j vs e h = let x : y ≡ k = cc in record { between = ys; before = ap (λ (i : ℕ). i ∷ ys) x }
-later (x ∷ xs) k us (y ∷ ys) j vs e h =
-    let i : y ≡ x = cc in
-    let w : Later xs k ys = later xs k us ys j vs (cc) (omega arith) in
-    record { between = w .between; before = ap₂ (λ (a : ℕ) (l : List ℕ). a ∷ l) i (w .before) }
-
-pub record Same (xs : List ℕ) (k : ℕ) (ys : List ℕ) (j : ℕ) : Type 0 where
-  pub before-same : xs ≡ ys
-  pub kind-same : k ≡ j
-
-pub same : (xs : List ℕ) (k : ℕ) (us ys : List ℕ) (j : ℕ) (vs : List ℕ) → xs ++ (k ∷ us) ≡ ys ++ (j ∷ vs) → length xs ≡ length ys → Same xs k ys j
-same [] k us [] j vs e h = record { before-same = refl; kind-same = cc }
-same [] k us (y ∷ ys) j vs e h = absurd (omega arith)
-same (x ∷ xs) k us [] j vs e h = absurd (omega arith)
-same (x ∷ xs) k us (y ∷ ys) j vs e h =
-    let i : x ≡ y = cc in
-    let w : Same xs k ys j = same xs k us ys j vs (cc) (omega arith) in
-    record { before-same = rw (i, w .before-same); kind-same = w .kind-same }
 
 -- ---- floating registers
 
@@ -231,7 +204,7 @@ module _ (d : Device) (sig : List ℕ) where
                 let n : length (a .before) ≡ length (o .argument .before) =
                 omega (arith, ltb-false (length (a .before)) (length (o .argument .before)) e, ltb-false (length (o .argument .before)) (length (a .before)) f) in
                 let s : Same (a .before) (a .kind) (o .argument .before) (o .argument .kind) = same (a .before) (a .kind) (a .behind) (o .argument .before) (o .argument .kind) (o .argument .behind) (a .here ∙ sym (o .argument .here)) n in
-                rw (s .before-same, s .kind-same) (o .unfloated, o .from, o .before-end)
+                rw (s .before-same, s .here-same) (o .unfloated, o .from, o .before-end)
 
     pub nothing : CarriesNothing d sig
     nothing = record {
