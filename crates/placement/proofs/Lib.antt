@@ -9,3 +9,4 @@ pub mod Bytes
 pub mod Nothing
 pub mod Refusing
 pub mod Improper
+pub mod Refusals

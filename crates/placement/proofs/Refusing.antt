@@ -140,7 +140,7 @@ module _ (d : Device) {ks : List ℕ} {L : List Placed} {last : State} (w : Walk
   count-is : last .count ≡ argumentsIn ks
   count-is = ap (λ (s : State). s .count) (walk-reach d w) ∙ reach-count start ks ∙ omega arith
 
-  end-is : last .end ≡ endOf 0 ks
+  pub end-is : last .end ≡ endOf 0 ks
   end-is = ap (λ (s : State). s .end) (walk-reach d w) ∙ reach-end ks start
 
   so : Behind d start ks last

@@ -1,0 +1,137 @@
+-- The refusals of the writer and the reader with a buffer, exactly on their conditions, on every device.
+-- Assumes nothing.
+use mathlib.Core.Path.{_≡_, refl, sym, ap, _∙_, subst}
+use mathlib.Core.Logic.{_↔_, Iff·trans}
+use mathlib.Core.List.{List, [], _∷_}
+use mathlib.Core.Bool.{Bool, true, false}
+use Prim.Native.Nat.{ℕ, zero, suc, _+_, _≤_, _<_}
+use native.Mathlib.Omega.{arith}
+use lib.ListN.{length}
+use Rattle.device.specs.declared.Device.{Device}
+use Rattle.carried.specs.Image as C
+use Rattle.carried.specs.Image.{Placed, listLength}
+use Rattle.carried.specs.Convention.{bad, good, plan}
+use Rattle.carried.specs.Demand.{kinds}
+use Rattle.carried.proofs.Walks.{Walk, end, one, walk-of, walk-by-kinds}
+use Rattle.o32.specs.declared.State.{State}
+use Rattle.o32.specs.declared.Placement.{Placement}
+use Rattle.o32.specs.Kinds.{kindOf}
+use Rattle.o32.specs.O32.{O32, area, start}
+use Rattle.answers.specs.declared.Answer.{Answer}
+use Rattle.answers.specs.Answers.{answerOf, writeInto, readInto}
+use Rattle.answers.proofs.Refusals as A
+use Rattle.answers.proofs.Refusals.{answer-refuses, write-refused, read-refused}
+use Rattle.placement.specs.Carrying.{endOf, imageBytes, listBytes}
+use Rattle.placement.specs.Refusing.{Condition, unknown, misplaced, full, cut, beyond, Accepted, RefusedAt, WriterRefuses, ReaderRefuses, Refuses, Refusals}
+use Rattle.placement.specs.Refusing as R
+use Rattle.placement.proofs.Laws.{O32-laws, O32-carried}
+use Rattle.placement.proofs.Steps.{step-says}
+use Rattle.placement.proofs.Refusing.{end-is, refused-exactly, accepted-exactly}
+use Rattle.placement.proofs.Improper.{improper-exactly}
+
+-- ---- lengths
+
+module _ (d : Device) where
+  walk-list : {st last : State} {ks : List ℕ} {L : List Placed} → Walk (O32 d) (O32-laws d) st ks L last → listLength L ≡ listBytes ks
+  walk-list end = refl
+  walk-list (one {st = st} {st′ = st′} {k = k} {j = j} {p = p} e f w) =
+      let s : p .kind .size ≡ kindOf k .size = ap (λ (q : Placement). q .kind .size) (step-says d st k j p st′ e .at) in
+      omega (arith, s, walk-list w)
+
+  walk-image : {last : State} {ks : List ℕ} {L : List Placed} → Walk (O32 d) (O32-laws d) start ks L last → 32 + area (last .end) ≡ imageBytes ks
+  walk-image w = ap (λ (e : ℕ). 32 + area e) (end-is d w)
+
+  -- of a signature
+  pub list-long : (sig : List ℕ) (L : List Placed) (last : State) → plan (O32 d) false sig ≡ good L last → listLength L ≡ listBytes sig
+  list-long sig L last ok = walk-list (walk-of (O32 d) (O32-laws d) sig start L last 0 ok)
+
+  pub image-long : (sig : List ℕ) (L : List Placed) (last : State) → plan (O32 d) false sig ≡ good L last → 32 + area (last .end) ≡ imageBytes sig
+  image-long sig L last ok = walk-image (walk-of (O32 d) (O32-laws d) sig start L last 0 ok)
+
+  signature-accepted : (sig : List ℕ) (L : List Placed) (last : State) → plan (O32 d) false sig ≡ good L last → Accepted d false sig sig
+  signature-accepted sig L last ok = record { placed = L; last = last; planned = ok; are = O32-carried d sig L last ok .signature }
+
+  -- ---- the writer
+
+  writer-refuses : (list : List ℕ) (room r place j : ℕ) → (writeInto (O32 d) list room ≡ C.refused r place j) ↔ WriterRefuses d list room r place j
+  writer-refuses list room r place j = ((λ e. there (write-refused (O32 d) list room r place j .0 e)), λ v. write-refused (O32 d) list room r place j .1 (back v))
+    where
+      there : A.WriteRefused (O32 d) list room r place j → WriterRefuses d list room r place j
+      there (A.by-record e) = R.by-record (refused-exactly d true list r place j .0 e)
+      there (A.short L last e h x y z) =
+          let n : 32 + area (last .end) ≡ imageBytes (kinds L) = walk-image (walk-by-kinds (O32 d) (O32-laws d) true list L last e) in
+          R.WriterRefuses.seven (kinds L) (record { placed = L; last = last; planned = e; are = refl }) (omega (arith, n)) x y z
+
+      back : WriterRefuses d list room r place j → A.WriteRefused (O32 d) list room r place j
+      back (R.by-record v) = A.by-record (refused-exactly d true list r place j .1 v)
+      back (R.seven ks a h x y z) =
+          let n : 32 + area (a .last .end) ≡ imageBytes ks = walk-image (walk-by-kinds (O32 d) (O32-laws d) true list (a .placed) (a .last) (a .planned)) ∙ ap imageBytes (a .are) in
+          A.short (a .placed) (a .last) (a .planned) (omega (arith, n)) x y z
+
+  -- ---- the reader
+
+  reader-refuses : (sig img : List ℕ) (room r place j : ℕ) → (readInto (O32 d) sig img room ≡ C.refused r place j) ↔ ReaderRefuses d sig img room r place j
+  reader-refuses sig img room r place j =
+      ((λ e. there (read-refused (O32 d) (O32-laws d) sig img room r place j .0 e)), λ v. read-refused (O32 d) (O32-laws d) sig img room r place j .1 (back v))
+    where
+      there : A.ReadRefused (O32 d) sig img room r place j → ReaderRefuses d sig img room r place j
+      there (A.by-record e) = R.by-record (refused-exactly d false sig r place j .0 e)
+      there (A.six L last e h x y z) = R.six (signature-accepted sig L last e) (λ g. h (g ∙ sym (image-long sig L last e))) x y z
+      there (A.seven L last e g h x y z) = R.seven (signature-accepted sig L last e) (g ∙ image-long sig L last e) (omega (arith, list-long sig L last e)) x y z
+      there (A.eight L last e g h x w) =
+          R.eight (signature-accepted sig L last e) (g ∙ image-long sig L last e) (omega (arith, list-long sig L last e)) x (improper-exactly d sig L last e img place j .0 w)
+
+      back : ReaderRefuses d sig img room r place j → A.ReadRefused (O32 d) sig img room r place j
+      back (R.by-record v) = A.by-record (refused-exactly d false sig r place j .1 v)
+      back (R.six a h x y z) = A.six (a .placed) (a .last) (a .planned) (λ g. h (g ∙ image-long sig (a .placed) (a .last) (a .planned))) x y z
+      back (R.seven a g h x y z) =
+          A.seven (a .placed) (a .last) (a .planned) (g ∙ sym (image-long sig (a .placed) (a .last) (a .planned))) (omega (arith, list-long sig (a .placed) (a .last) (a .planned))) x y z
+      back (R.eight a g h x w) =
+          A.eight (a .placed) (a .last) (a .planned) (g ∙ sym (image-long sig (a .placed) (a .last) (a .planned))) (omega (arith, list-long sig (a .placed) (a .last) (a .planned))) x
+          (improper-exactly d sig (a .placed) (a .last) (a .planned) img place j .1 w)
+
+  -- ---- what they answer
+
+  -- a refusal has a number
+  by-record-numbered : {bodies : Bool} {l : List ℕ} {r place j : ℕ} → RefusedAt d bodies l r place j → 1 ≤ r
+  by-record-numbered v = go (v .holds)
+    where
+      go : {bodies : Bool} {ks : List ℕ} {k left r : ℕ} → Condition bodies ks k left r → 1 ≤ r
+      go (unknown e x) = omega arith
+      go (misplaced e x) = omega arith
+      go (full e x y) = omega arith
+      go (cut e x y) = omega arith
+      go (beyond e x y) = omega arith
+
+  writer-numbered : {list : List ℕ} {room r place j : ℕ} → WriterRefuses d list room r place j → 1 ≤ r
+  writer-numbered (R.by-record v) = by-record-numbered v
+  writer-numbered (R.seven ks a h x y z) = omega arith
+
+  reader-numbered : {sig img : List ℕ} {room r place j : ℕ} → ReaderRefuses d sig img room r place j → 1 ≤ r
+  reader-numbered (R.by-record v) = by-record-numbered v
+  reader-numbered (R.six a h x y z) = omega arith
+  reader-numbered (R.seven a g h x y z) = omega arith
+  reader-numbered (R.eight a g h x w) = omega arith
+
+  -- an answer is no refusal exactly when there is none
+  accepts : (a : C.Answer) (P : ℕ → ℕ → ℕ → Type 0) → ((r place j : ℕ) → (a ≡ C.refused r place j) ↔ P r place j) → ((r place j : ℕ) → P r place j → 1 ≤ r)
+      → (answerOf a .refusal ≡ 0) ↔ ((r place j : ℕ) → P r place j → ⊥)
+  accepts a P same numbered = (
+    (λ e r place j v. let f : answerOf a .refusal ≡ r = ap (λ (x : C.Answer). answerOf x .refusal) (same r place j .1 v) in omega (arith, numbered r place j v)),
+    λ h. none a same h,
+  )
+    where
+      none : (x : C.Answer) → ((r place j : ℕ) → (x ≡ C.refused r place j) ↔ P r place j) → ((r place j : ℕ) → P r place j → ⊥) → answerOf x .refusal ≡ 0
+      none (C.refused r place j) same h = absurd (h r place j (same r place j .0 refl))
+      none (C.done x) same h = refl
+
+  pub refusals : Refusals d
+  refusals = record {
+    accepted = λ bodies l. accepted-exactly d bodies l;
+    write-refuses = λ list out r place j h. Iff·trans (answer-refuses (writeInto (O32 d) list (length out)) r place j h) (writer-refuses list (length out) r place j);
+    write-accepts = λ list out.
+        accepts (writeInto (O32 d) list (length out)) (λ r place j. WriterRefuses d list (length out) r place j) (writer-refuses list (length out)) (λ r place j v. writer-numbered v);
+    read-refuses = λ sig img out r place j h. Iff·trans (answer-refuses (readInto (O32 d) sig img (length out)) r place j h) (reader-refuses sig img (length out) r place j);
+    read-accepts = λ sig img out.
+        accepts (readInto (O32 d) sig img (length out)) (λ r place j. ReaderRefuses d sig img (length out) r place j) (reader-refuses sig img (length out)) (λ r place j v. reader-numbered v);
+  }
