@@ -1,12 +1,12 @@
 -- The carried-bytes theorem, of what the reader and the writer of a convention answer and leave in buffers that are long enough.
 -- Assumes nothing.
 use mathlib.Core.Path.{_≡_, refl, sym, ap, _∙_}
-use mathlib.Core.Logic.{_⊎_, inl, inr, _↔_}
+use mathlib.Core.Logic.{_↔_}
 use mathlib.Core.List.{List, []}
 use mathlib.Core.Bool.{false}
 use Prim.Native.Nat.{ℕ, _≤_}
 use native.Mathlib.Omega.{arith}
-use lib.ListN.{length, getD}
+use lib.ListN.{length}
 use Rattle.carried.specs.Image as C
 use Rattle.carried.specs.Image.{Placed, carried, image, reading, listLength}
 use Rattle.carried.specs.Convention.{Convention, Plan, bad, good, plan, write, read}
@@ -16,11 +16,32 @@ use Rattle.carried.proofs.Theorem.{theorem}
 use Rattle.carried.proofs.RoundTrip.{round-trip}
 use Rattle.carried.proofs.Readings.{reading-length}
 use Rattle.answers.specs.Answers.{readWith, readInto, writeInto, answerOf}
-use Rattle.answers.specs.Demand.{functionsOf, output, PastSignature, AcceptedSignature, Lent, Accepts, readingOf, rewritingOf, Agree, Rewritings}
+use Rattle.answers.specs.Demand.{Functions, functionsOf, output, PastSignature, AcceptedSignature, Lent, Accepts, readingOf, rewritingOf, Rewritings}
 use Rattle.answers.proofs.Buffers.{written-is, read-is, output-done, accepted-done, past-signature, read-numbered}
 
 done-inj : {x y : List ℕ} → C.done x ≡ C.done y → x ≡ y
 done-inj e = cc
+
+-- the same in other words: of buffers as long, and of the same carried bytes
+pub rewritings-as : {f : Functions} {sig : List ℕ} {m n m′ n′ : ℕ} {P Q : ℕ → Type 0} → m ≡ m′ → n ≡ n′ → ((p : ℕ) → Q p ↔ P p)
+    → Rewritings f sig m n P → Rewritings f sig m′ n′ Q
+rewritings-as {f} {sig} {m} {n} {m′} {n′} {P} {Q} e g same w = record {
+  some = λ u. w .some (lent u);
+  alike = λ u v. w .alike (lent u) (lent v);
+  read-same = λ u v a b h k.
+      ((λ x p q. w .read-same (lent u) (lent v) a b h k .0 x p (same p .0 q)), λ x. w .read-same (lent u) (lent v) a b h k .1 (λ p q. x p (same p .1 q)));
+  rewrites = λ u. w .rewrites (lent u);
+  whole = λ u a h. w .whole (lent u) a h ∙ g;
+  keeps = λ u a h p q. w .keeps (lent u) a h p (same p .0 q);
+  clears = λ u a h p q. w .clears (lent u) a h p (λ x. q (same p .1 x));
+  accepted-again = λ u v. w .accepted-again (lent u) (lent v);
+  reads-again = λ u v. w .reads-again (lent u) (lent v);
+  fixed = λ u v. w .fixed (lent u) (lent v);
+  same-rewriting = λ u v. w .same-rewriting (lent u) (lent v);
+}
+  where
+    lent : Lent m′ n′ → Lent m n
+    lent u = record { list = u .list; image = u .image; list-long = omega (arith, u .list-long); image-long = omega (arith, u .image-long) }
 
 -- the refusals of a signature are none of those that come after
 abbrev pub Early : Convention → Type 0

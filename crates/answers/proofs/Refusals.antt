@@ -1,20 +1,19 @@
 -- When the writer and the reader of a convention refuse, with a buffer of any length: by record, or 7; by record, or 6, 7, 8.
 -- Assumes nothing.
-use mathlib.Core.Path.{_≡_, refl, sym, ap, _∙_}
+use mathlib.Core.Path.{_≡_, refl, _∙_}
 use mathlib.Core.Logic.{_↔_}
 use mathlib.Core.List.{List}
 use mathlib.Core.Bool.{Bool, true, false, cond}
 use Prim.Native.Nat.{ℕ, _≤_, _<_}
 use native.Mathlib.Omega.{arith}
-use lib.ListN.{length, replicate, length-replicate}
+use lib.ListN.{length}
 use lib.Dec.{eqb, ltb}
 use borrow.Author.Tests.{eqb-true, eqb-false, eq-eqb, ne-eqb, ltb-true, ltb-false, lt-ltb, le-ltb}
 use Rattle.carried.specs.Image as C
-use Rattle.carried.specs.Image.{Placed, carried, promotedBytes, image, reading, listLength}
-use Rattle.carried.specs.Convention.{Convention, Plan, bad, good, plan, written, write}
-use Rattle.carried.proofs.Places.{length-put}
+use Rattle.carried.specs.Image.{Placed, image, reading, listLength}
+use Rattle.carried.specs.Convention.{Convention, Plan, bad, good, plan, written}
 use Rattle.carried.proofs.Walks.{Laws, walk-of, walk-one-each}
-use Rattle.carried.proofs.Readings.{reading-length}
+use Rattle.carried.proofs.Readings.{image-length, reading-length}
 use Rattle.carried.proofs.Refusals.{ImproperAt, checked-refuses}
 use Rattle.answers.specs.declared.Answer.{Answer}
 use Rattle.answers.specs.Answers.{within, writeInto, readWith, readInto, answerOf}
@@ -34,9 +33,6 @@ module _ (c : Convention) where
   pub data WriteRefused (list : List ℕ) (room r place j : ℕ) : Type 0 where
     by-record : plan c true list ≡ bad r place j → WriteRefused list room r place j
     short : (L : List Placed) (last : c .State) → plan c true list ≡ good L last → room < c .imageLength last → r ≡ 7 → place ≡ 0 → j ≡ 0 → WriteRefused list room r place j
-
-  image-length : (n : ℕ) (L : List Placed) (l : List ℕ) → length (image n L l) ≡ n
-  image-length n L l = length-put (replicate n 0) (carried L) (promotedBytes L l) ∙ length-replicate n 0
 
   pub write-refused : (list : List ℕ) (room r place j : ℕ) → (writeInto c list room ≡ C.refused r place j) ↔ WriteRefused list room r place j
   write-refused list room r place j = (λ e. go (plan c true list) refl e, back)

@@ -2,18 +2,16 @@
 -- Assumes nothing.
 use mathlib.Core.Path.{_≡_, refl, sym, ap, _∙_}
 use mathlib.Core.List.{List, _++_}
-use mathlib.Core.Bool.{Bool, true, false, cond}
+use mathlib.Core.Bool.{Bool, true}
 use Prim.Native.Nat.{ℕ, _+_, _≤_, _<_}
-use mathlib.Core.Logic.{_↔_}
 use native.Mathlib.Omega.{arith}
-use lib.ListN.{length, drop, replicate, length-replicate}
-use lib.Dec.{leb, ltb}
-use borrow.Author.Tests.{lt-ltb, le-ltb, leb-true, ltb-false}
+use lib.ListN.{length, drop}
+use lib.Dec.{leb}
+use borrow.Author.Tests.{lt-ltb, le-ltb, leb-true}
 use Rattle.device.specs.declared.Device.{Device}
-use Rattle.carried.specs.Image as C
-use Rattle.carried.specs.Image.{carried, promotedBytes, image}
-use Rattle.carried.specs.Convention.{Plan, bad, good, plan, write}
-use Rattle.carried.proofs.Places.{length-put}
+use Rattle.carried.specs.Image.{image}
+use Rattle.carried.proofs.Readings.{image-length}
+use Rattle.carried.specs.Convention.{Plan, bad, good, plan}
 use Rattle.carried.proofs.Walks.{walked, walk-fits}
 use Rattle.o32.specs.declared.State.{State}
 use Rattle.o32.specs.O32.{O32, area}
@@ -23,7 +21,7 @@ use Rattle.measure.specs.declared.Measured.the-variants as M
 use Rattle.measure.specs.Measured.{measured}
 use Rattle.answers.specs.declared.Answer.{Answer}
 use Rattle.writer.specs.Filling.{Fillable, imageIn}
-use Rattle.answers.specs.Answers.{answerOf, bufferOf, within, writeInto}
+use Rattle.answers.specs.Answers.{answerOf, bufferOf, writeInto}
 
 -- the first pass has found an image's length
 pub fillable : (d : Device) (list : List ℕ) (long end n : ℕ) → M.Accepted long end ≡ measured (plan (O32 d) true list) → n ≡ 32 + area end → Fillable d list n
@@ -63,7 +61,7 @@ module _ (d : Device) (list out : List ℕ) where
 
   module _ (n : ℕ) (f : Fillable d list n) where
     long : length (image n (f .placed) list) ≡ n
-    long = length-put (replicate n 0) (carried (f .placed)) (promotedBytes (f .placed) list) ∙ length-replicate n 0
+    long = image-length n (f .placed) list
 
     pub write-short : length out < n → Right d list out (record { refusal = 7; place = 0; argument = 0; length = 0 }) out
     write-short h = record { answer = rw (f .planned, ← (f .whole), long, lt-ltb (length out) n h); buffer = rw (f .planned, ← (f .whole), long, lt-ltb (length out) n h) }

@@ -7,20 +7,18 @@ use mathlib.Core.Bool.{Bool, true, false, cond}
 use Prim.Native.Nat.{ℕ, suc, _+_, _≤_}
 use native.Mathlib.Omega.{arith}
 use native.Mathlib.Decide.{ℕ-discrete}
-use lib.ListN.{length, replicate, length-append, length-replicate}
+use lib.ListN.{length, length-append}
 use lib.Dec.{eqb, ltb}
 use borrow.Author.Tests.{eqb-true}
 use Rattle.words.specs.Words.{body, proper}
 use Rattle.device.specs.declared.Device.{Device}
 use Rattle.carried.specs.Image as C
-use Rattle.carried.specs.Image.{Placed, gather, carried, promotedBytes, image, reading}
+use Rattle.carried.specs.Image.{Placed, gather, reading}
 use Rattle.carried.specs.Convention.{Plan, bad, good, plan, written, write}
-use Rattle.carried.proofs.Places.{length-put}
-use Rattle.carried.proofs.Walks.{walk-of, plan-reading}
+use Rattle.carried.proofs.Readings.{image-length}
 use Rattle.o32.specs.declared.State.{State}
 use Rattle.o32.specs.O32.{O32, area}
-use Rattle.placement.proofs.Laws.{O32-laws}
-use Rattle.placement.proofs.Bounds.{Numbers, refusal-bound, plan-bound}
+use Rattle.placement.proofs.Bounds.{Numbers, refusal-bound, plan-bound, reading-long}
 use Rattle.answers.specs.declared.Answer.{Answer}
 use Rattle.answers.specs.Answers.{answerOf, bufferOf, within, readWith, writeInto, readInto}
 use Rattle.saves.specs.declared.Request.{Request}
@@ -57,16 +55,9 @@ within-bounded number room (C.done x) h = go (ltb room (length x))
 
 -- ---- the writer
 
--- "Its length is 32 + A"
-image-length : (end : ℕ) (L : List Placed) (l : List ℕ) → end ≤ 1024 → length (image (32 + area end) L l) ≤ 1057
-image-length end L l h =
-    let n : ℕ = 32 + area end in
-    let e : length (image n L l) ≡ n = length-put (replicate n 0) (carried L) (promotedBytes L l) ∙ length-replicate n 0 in
-    omega arith
-
 write-bounded : (d : Device) (list : List ℕ) (q : Plan State) → plan (O32 d) true list ≡ q → Bounded (written (O32 d) list q)
 write-bounded d list (bad r at j) e = refusal-bound d true list r at j e
-write-bounded d list (good L last) e = image-length (last .end) L list (plan-bound d true list L last e .fits)
+write-bounded d list (good L last) e = omega (arith, image-length (32 + area (last .end)) L list, plan-bound d true list L last e .fits)
 
 pub write-fits : {a : Answer} (d : Device) (list : List ℕ) (room : ℕ) → a ≡ answerOf (writeInto (O32 d) list room) → Fits a
 write-fits d list room e = fits (writeInto (O32 d) list room) (within-bounded 7 room (write (O32 d) list) (write-bounded d list (plan (O32 d) true list) refl)) e
@@ -84,11 +75,6 @@ checked-bounded (s ∷ L) img at x h n b =
     go true w = w
     go false w = (omega arith, n .0)
 
--- a reading is a list that the writer accepts
-reading-length : (d : Device) (sig img : List ℕ) (L : List Placed) (last : State) → plan (O32 d) false sig ≡ good L last → length (reading L img) ≤ 1057
-reading-length d sig img L last e =
-    plan-bound d true (reading L img) L last (plan-reading (O32 d) (O32-laws d) (walk-of (O32 d) (O32-laws d) sig (O32 d .start) L last 0 e) img 0) .long
-
 read-bounded : (d : Device) (sig img : List ℕ) (room : ℕ) (q : Plan State) → plan (O32 d) false sig ≡ q → Bounded (readWith (O32 d) img room q)
 read-bounded d sig img room (bad r at j) e = refusal-bound d false sig r at j e
 read-bounded d sig img room (good L last) e = go (eqb (length img) (32 + area (last .end))) (ltb room (length (reading L img)))
@@ -96,7 +82,7 @@ read-bounded d sig img room (good L last) e = go (eqb (length img) (32 + area (l
     go : (t u : Bool) → Bounded (cond t (cond u (C.refused 7 0 0) (C.checked 0 L img (C.done (reading L img)))) (C.refused 6 0 0))
     go true true = nowhere
     go true false =
-        let l : length (reading L img) ≤ 1057 = reading-length d sig img L last e in
+        let l : length (reading L img) ≤ 1057 = reading-long d sig img L last e in
         checked-bounded L img 0 (C.done (reading L img)) (omega arith) (plan-bound d false sig L last e .numbers) l
     go false u = nowhere
 

@@ -1,10 +1,15 @@
 -- The numbers that C hands over and gets.
 use mathlib.Core.Bool.{cond, not}
+use mathlib.Core.List.{List}
 use Prim.Native.Nat.{ℕ}
+use lib.ListN.{length}
 use lib.Dec.{eqb}
 use Rattle.device.specs.declared.Device.{Device}
 use Rattle.device.specs.declared.Device.the-variants.{Fpu, NoFpu}
 use Rattle.answers.specs.declared.Answer.{Answer}
+use Rattle.answers.specs.Answers.{answerOf, bufferOf, readInto, writeInto}
+use Rattle.answers.specs.Demand.{Seen, Functions}
+use Rattle.o32.specs.O32.{O32}
 use Rattle.saves.specs.declared.Request.{Request}
 use Rattle.saves.specs.declared.Layout.{Layout}
 use Rattle.capi.specs.declared.O32Answer.{O32Answer}
@@ -26,6 +31,10 @@ layoutNumbers y = record {
   locals = y .locals;
 }
 
+-- What a caller in C sees of a call: the refusal and the length in its answer, and its buffer afterwards.
+abbrev pub seenFromC : O32Answer → List ℕ → Seen
+seenFromC a out = record { refusal = a .refusal; length = a .length; buffer = out }
+
 -- A device. 0 is the one with a floating-point unit, any other number the one without.
 abbrev pub deviceOf : ℕ → Device
 deviceOf n = cond (eqb n 0) Fpu NoFpu
@@ -38,4 +47,12 @@ requestOf leaf locals outgoing general pairs = record {
   outgoing = outgoing;
   general = general;
   pairs = pairs;
+}
+
+-- `o32_read` and `o32_write` with this device, as their contracts say.
+abbrev pub functionsForC : ℕ → Functions
+functionsForC device = record {
+  read = λ sig img out.
+      seenFromC (narrow (answerOf (readInto (O32 (deviceOf device)) sig img (length out)))) (bufferOf (readInto (O32 (deviceOf device)) sig img (length out)) out);
+  write = λ list out. seenFromC (narrow (answerOf (writeInto (O32 (deviceOf device)) list (length out)))) (bufferOf (writeInto (O32 (deviceOf device)) list (length out)) out);
 }

@@ -6,7 +6,7 @@ use mathlib.Core.List.{List, [], _∷_, _++_}
 use Prim.Native.Nat.{ℕ, zero, suc, _<_}
 use native.Mathlib.Omega.{arith}
 use lib.ListN.{length, getD}
-use Rattle.carried.specs.Image.{Placed, carried, listLength}
+use Rattle.carried.specs.Image.{Placed, carried}
 use Rattle.carried.specs.Demand.{In, Distinct, kinds}
 use Rattle.carried.proofs.Places.{in-left, in-right, in-cases}
 

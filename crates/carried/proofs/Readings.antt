@@ -24,6 +24,10 @@ isProper s img = proper (s .extension) (s .size) (bytesIn s img)
 abbrev pub rewriting : ℕ → List Placed → List ℕ → List ℕ
 rewriting n L img = image n L (reading L img)
 
+-- an image has its length
+pub image-length : (n : ℕ) (L : List Placed) (l : List ℕ) → length (image n L l) ≡ n
+image-length n L l = length-put (replicate n 0) (carried L) (promotedBytes L l) ∙ length-replicate n 0
+
 -- a body has its size
 pub length-body : (s : Placed) (img : List ℕ) → s .size ≤ length (s .carriers) → length (body (s .size) (bytesIn s img)) ≡ s .size
 length-body s img h = length-drop (length (bytesIn s img) - s .size) (bytesIn s img) ∙ rw length-gather (omega arith)
@@ -42,7 +46,7 @@ reading-length (s ∷ L) img z =
     omega (arith, length-append b (reading L img), length-body s img (fits-carriers s (z .0)), reading-length L img (z .1))
 
 -- an accepted image holds the promotion of the body in it
-promotion-of : (s : Placed) (img : List ℕ) → isProper s img ≡ true → promote (s .extension) (body (s .size) (bytesIn s img)) ≡ bytesIn s img
+pub promotion-of : (s : Placed) (img : List ℕ) → isProper s img ≡ true → promote (s .extension) (body (s .size) (bytesIn s img)) ≡ bytesIn s img
 promotion-of s img e = same→eq (promote (s .extension) (body (s .size) (bytesIn s img))) (bytesIn s img) (rw e tt)
 
 -- so the bytes of the reading's arguments after promotion are the carried bytes
@@ -93,7 +97,7 @@ module _ (n : ℕ) (L : List Placed) (w : OneEach n L) where
 
   pub accepted : (a : List ℕ) → Accepted n L a → Accepted n L (rewriting n L a)
   accepted a o = record {
-    whole = length-put (replicate n 0) (carried L) (promotedBytes L (reading L a)) ∙ length-replicate n 0;
+    whole = image-length n L (reading L a);
     promoted = proper-agree (rewriting n L a) a L (keeps a o) (o .promoted);
   }
 

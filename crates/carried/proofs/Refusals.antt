@@ -1,7 +1,7 @@
 -- Where a record is refused, in every convention: exactly at the place where what is before is accepted and the step and the limits
 -- refuse the kind byte there, in the state behind what is before. And refusal 8: exactly at the first record that is improper.
 -- Assumes nothing.
-use mathlib.Core.Path.{_≡_, refl, sym, ap, _∙_, subst}
+use mathlib.Core.Path.{_≡_, refl, ap, _∙_, subst}
 use mathlib.Core.Logic.{_↔_}
 use mathlib.Core.List.{List, [], _∷_, _++_}
 use mathlib.Core.Bool.{Bool, true, false, cond}
@@ -195,28 +195,37 @@ module _ (img : List ℕ) where
     where
       go : (t : Bool) → isProper s img ≡ t → (a : Answer) → Tested (suc at) L a → Tested at (s ∷ L) (cond t a (refused 8 at (s .argument)))
       go true e (refused r place j) w =
-          let v : ImproperAt L (w .1) j = w .2 in
-          (w .0, suc (w .1), record {
-            before = s ∷ v .before;
-            here = v .here;
-            behind = v .behind;
-            records = ap (λ (M : List Placed). s ∷ M) (v .records);
-            placed = ap suc (v .placed);
-            number = v .number;
-            proper-before = (e, v .proper-before);
-            improper = v .improper;
-          }, omega (arith, w .3))
+          let v : ImproperAt L (w .1) j = w .2 in (
+            w .0,
+            suc (w .1),
+            record {
+              before = s ∷ v .before;
+              here = v .here;
+              behind = v .behind;
+              records = ap (λ (M : List Placed). s ∷ M) (v .records);
+              placed = ap suc (v .placed);
+              number = v .number;
+              proper-before = (e, v .proper-before);
+              improper = v .improper;
+            },
+            omega (arith, w .3),
+          )
       go true e (done y) w = (e, w)
-      go false e a w = (refl, 0, record {
-        before = [];
-        here = s;
-        behind = L;
-        records = refl;
-        placed = refl;
-        number = refl;
-        proper-before = tt;
-        improper = e;
-      }, omega arith)
+      go false e a w = (
+        refl,
+        0,
+        record {
+          before = [];
+          here = s;
+          behind = L;
+          records = refl;
+          placed = refl;
+          number = refl;
+          proper-before = tt;
+          improper = e;
+        },
+        omega arith,
+      )
 
   refuses : (M : List Placed) (s : Placed) (N : List Placed) (at : ℕ) (a : Answer) → AllProper M img → isProper s img ≡ false → checked at (M ++ (s ∷ N)) img a ≡ refused 8 (at + length M) (s .argument)
   refuses [] s N at a h e = let x : at + 0 ≡ at = omega arith in rw (e, x)

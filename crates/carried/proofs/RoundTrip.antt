@@ -2,7 +2,7 @@
 -- Assumes nothing.
 use mathlib.Core.Path.{_≡_, refl, sym, ap, ap₂, _∙_, subst}
 use mathlib.Core.List.{List, [], _∷_, _++_}
-use mathlib.Core.Bool.{Bool, true, false}
+use mathlib.Core.Bool.{true, false}
 use Prim.Native.Nat.{ℕ, suc, _+_, _-_, _≤_}
 use native.Mathlib.Omega.{arith}
 use lib.ListN.{length, take, drop, replicate, length-append, length-replicate, take-append-drop}
@@ -13,9 +13,10 @@ use Rattle.words.proofs.Bytes.{same-true}
 use Rattle.carried.specs.Image.{gather, Placed, carried, promotedBytes, image, reading, done}
 use Rattle.carried.specs.Convention.{next, Convention, Plan, bad, good, also, from, plan}
 use Rattle.carried.specs.Demand.{Sized, kinds, OneEach, AllProper, Accepted, RoundTrip}
-use Rattle.carried.proofs.Places.{length-gather, gather-append, length-put, gather-put}
+use Rattle.carried.proofs.Places.{length-gather, gather-append, gather-put}
 use Rattle.carried.proofs.Plans.{by-records}
 use Rattle.carried.proofs.Walks.{laws-at, Laws, Walk, end, one, walk-by-kinds, walk-one-each}
+use Rattle.carried.proofs.Readings.{image-length}
 use Rattle.carried.proofs.Theorem.{theorem}
 
 -- ---- one record
@@ -122,7 +123,7 @@ module _ (c : Convention) (laws : Laws c) (l : List ℕ) (L : List Placed) (last
       let signed : plan c false (kinds L) ≡ good L last = plan-signature c laws the-walk 0 in
       let b : Back img L l = back img L l (one-each .sized) whole stored in
       let a : Accepted (c .imageLength last) L img = record {
-        whole = length-put (replicate (c .imageLength last) 0) (carried L) (promotedBytes L l) ∙ length-replicate (c .imageLength last) 0;
+        whole = image-length (c .imageLength last) L l;
         promoted = b .proper-all;
       } in
       record {

@@ -10,8 +10,9 @@ use lib.ListN.{length}
 use lib.Dec.{leb}
 use borrow.Author.Tests.{leb-true, leb-false}
 use Rattle.device.specs.declared.Device.{Device}
-use Rattle.carried.specs.Image.{Placed}
+use Rattle.carried.specs.Image.{Placed, reading}
 use Rattle.carried.specs.Convention.{Step, refuse, next, Plan, bad, good, also, behind, taken, from, plan}
+use Rattle.carried.proofs.Walks.{walk-of, plan-reading}
 use Rattle.carried.proofs.Plans.{by-step, by-limits, stops, Stops, by-records}
 use Rattle.o32.specs.declared.Class.the-variants.{Unknown, Marker, Signed, Unsigned}
 use Rattle.o32.specs.declared.Kind.{Kind}
@@ -21,7 +22,7 @@ use Rattle.o32.specs.Kinds.{kindOf, is}
 use Rattle.o32.specs.Offsets.{width}
 use Rattle.o32.specs.O32.{misplaced, full, argument, onward, placement, stepped, start, O32}
 use Rattle.placement.proofs.KindFacts.{Sound, kind-sound}
-use Rattle.placement.proofs.Laws.{up-ge}
+use Rattle.placement.proofs.Laws.{O32-laws, up-ge}
 
 -- ---- one step
 
@@ -178,3 +179,8 @@ module _ (d : Device) (bodies : Bool) (l : List ℕ) where
   plan-bound L last e =
       let w : Reached (0 + length l) L last = subst (Reaches (0 + length l)) e planned in
       record { long = omega (arith, w .long); numbers = w .numbers; fits = w .fits }
+
+-- a reading is an accepted list
+pub reading-long : (d : Device) (sig img : List ℕ) (L : List Placed) (last : State) → plan (O32 d) false sig ≡ good L last → length (reading L img) ≤ 1057
+reading-long d sig img L last e =
+    plan-bound d true (reading L img) L last (plan-reading (O32 d) (O32-laws d) (walk-of (O32 d) (O32-laws d) sig start L last 0 e) img 0) .long

@@ -1,7 +1,7 @@
 -- The carried bytes of an accepted signature are exactly those that the rules give to its arguments' bytes, one to each.
 -- Assumes nothing.
 use mathlib.Core.Path.{_≡_, refl, sym, ap, _∙_, subst}
-use mathlib.Core.Logic.{_⊎_, _↔_, inl, inr}
+use mathlib.Core.Logic.{_↔_, inl, inr}
 use mathlib.Core.List.{List, [], _∷_, _++_}
 use mathlib.Core.Bool.{Bool, true, false}
 use Prim.Native.Nat.{ℕ, zero, suc, _+_, _-_, _<_}
@@ -13,7 +13,7 @@ use Rattle.device.specs.declared.Device.{Device}
 use Rattle.carried.specs.Image.{Placed, carried}
 use Rattle.carried.specs.Convention.{good, plan}
 use Rattle.carried.specs.Demand.{In, kinds, Carried}
-use Rattle.carried.proofs.Carriers.{Entry, Among, Carrier, carrier-of, carrier-in, SameByte, carriers-same, kinds-append, length-kinds, OfKind, of-kind}
+use Rattle.carried.proofs.Carriers.{Among, Carrier, carrier-of, carrier-in, SameByte, carriers-same, kinds-append, length-kinds, OfKind, of-kind}
 use Rattle.o32.specs.declared.Class.the-variants.{Float}
 use Rattle.o32.specs.declared.State.{State}
 use Rattle.o32.specs.Kinds.{kindOf, is}
@@ -55,7 +55,7 @@ module _ {d : Device} {before : List ℕ} {k : ℕ} {s : Placed} (w : CarriedAt 
           ]
 
   -- and no other
-  carries-only : (p : ℕ) → Carries d before k i p → getD (s .carriers) i 0 ≡ p
+  pub carries-only : (p : ℕ) → Carries d before k i p → getD (s .carriers) i 0 ≡ p
   carries-only p (low o z e h g) = w .low z o i e (omega (arith, w .long)) h ∙ sym g
   carries-only p (high o z e h g) = w .high z o i e (omega (arith, w .long)) h ∙ sym g
   carries-only p (single f z e h g) = w .single f z e h i (omega (arith, float-width (kindOf k) (floats-only d before k (omega arith)))) ∙ sym g
@@ -77,6 +77,7 @@ module _ (d : Device) (sig : List ℕ) (L : List Placed) (last : State) (ok : pl
 
   pub record Of (a : Argument sig) : Type 0 where
     pub among : Among L
+    pub kinds-before : kinds (among .before) ≡ a .before
     pub long : length (among .before) ≡ length (a .before)
     pub placed-so : among .here ≡ recordOf a
     pub carried-so : CarriedAt d (a .before) (a .kind) (among .here)
@@ -88,6 +89,7 @@ module _ (d : Device) (sig : List ℕ) (L : List Placed) (last : State) (ok : pl
       let ok′ : plan (O32 d) false (a .before ++ (a .kind ∷ a .behind)) ≡ good L last = ap (plan (O32 d) false) (a .here) ∙ ok in
       record {
         among = w .among;
+        kinds-before = w .kinds-before;
         long = n;
         placed-so = placed-behind d (a .before) (a .kind) (a .behind) L last ok′ (w .among .before) (w .among .here) (w .among .behind) (w .among .records) n;
         carried-so = carried-at d (a .before) (a .kind) (a .behind) L last ok′ (w .among .before) (w .among .here) (w .among .behind) (w .among .records) n;
@@ -127,8 +129,7 @@ module _ (d : Device) (sig : List ℕ) (L : List Placed) (last : State) (ok : pl
     λ m.
         let w : Carrier L p = carrier-of L p m in
         let v : CarriedAt d (kinds (w .among .before)) (w .among .here .kind) (w .among .here) = among-as (w .among) in
-        let l : w .byte .index < width (kindOf (w .among .here .kind)) = omega (arith, v .long, w .byte .inside) in
-        (
+        let l : w .byte .index < width (kindOf (w .among .here .kind)) = omega (arith, v .long, w .byte .inside) in (
           record { argument = argument-of (w .among); index = w .byte .index; inside = l },
           subst (λ (q : ℕ). Carries d (kinds (w .among .before)) (w .among .here .kind) (w .byte .index) q) (w .byte .at) (carries-as v (w .byte .index) l),
         ),

@@ -4,7 +4,7 @@ use mathlib.Core.Path.{_≡_, refl, sym, ap, _∙_, subst}
 use mathlib.Core.Logic.{_↔_}
 use mathlib.Core.List.{List, [], _∷_, _++_, map, append-assoc}
 use mathlib.Core.Bool.{Bool, true, false, _||_}
-use Prim.Native.Nat.{ℕ, suc, _+_, _<_}
+use Prim.Native.Nat.{ℕ, _<_}
 use native.Mathlib.Omega.{arith}
 use lib.ListN.{length, length-append}
 use borrow.Author.Tests.{eqb-true}
@@ -24,7 +24,7 @@ use Rattle.o32.specs.declared.Kind.{Kind}
 use Rattle.o32.specs.declared.State.{State}
 use Rattle.o32.specs.Kinds.{kindOf, is, classNumber}
 use Rattle.o32.specs.Offsets.{extension, width, offset}
-use Rattle.o32.specs.O32.{O32, run, carrier, start}
+use Rattle.o32.specs.O32.{O32, run, carrier}
 use Rattle.placement.specs.Carrying.{endOf, registerBehind, Argument}
 use Rattle.placement.specs.Refusing.{argumentBehind, Improper, FirstImproper}
 use Rattle.placement.proofs.KindFacts.{unpromoted-width}
@@ -34,13 +34,16 @@ use Rattle.placement.proofs.Numbering.{number-behind}
 
 -- ---- all records of a list
 
-proper-at : (img : List ℕ) (M : List Placed) (s : Placed) (N : List Placed) → AllProper (M ++ (s ∷ N)) img → isProper s img ≡ true
+pub proper-at : (img : List ℕ) (M : List Placed) (s : Placed) (N : List Placed) → AllProper (M ++ (s ∷ N)) img → isProper s img ≡ true
 proper-at img [] s N h = h .0
 proper-at img (m ∷ M) s N h = proper-at img M s N (h .1)
 
 all-proper : (img : List ℕ) (L : List Placed) → ((M : List Placed) (s : Placed) (N : List Placed) → L ≡ M ++ (s ∷ N) → isProper s img ≡ true) → AllProper L img
 all-proper img [] h = tt
 all-proper img (s ∷ L) h = (h [] s L refl, all-proper img L (λ M t N e. h (s ∷ M) t N (ap (λ (K : List Placed). s ∷ K) e)))
+
+apart : {t : Bool} → t ≡ true → t ≡ false → ⊥
+apart e f = let z : _≡_ {A = ℕ} 0 1 = cc in omega arith
 
 -- ---- one kind
 
@@ -100,6 +103,31 @@ module _ (d : Device) (sig : List ℕ) (L : List Placed) (last : State) (ok : pl
   number-as : (s : Placed) (a : Argument sig) → s ≡ recordOf d sig L last ok a → s .argument ≡ argumentBehind (a .before) (a .kind)
   number-as s a e = ap (λ (r : Placed). r .argument) e ∙ number-behind (a .before) (a .kind)
 
+  -- a record of an argument that is improper, and one that is not
+  improper-at : (a : Argument sig) → Improper a img → isProper (of d sig L last ok a .among .here) img ≡ false
+  improper-at a m = tests-as (of d sig L last ok a .among .here) a (of d sig L last ok a .placed-so) ∙ improper-so a m
+
+  proper-unless : (here : Among L) → (Improper (argument-of d sig L last ok here) img → ⊥) → isProper (here .here) img ≡ true
+  proper-unless here h = go (isProper (here .here) img) refl
+    where
+      go : (t : Bool) → isProper (here .here) img ≡ t → isProper (here .here) img ≡ true
+      go true e = e
+      go false e =
+          let a : Argument sig = argument-of d sig L last ok here in
+          absurd (h (so-improper a (sym (tests-as (here .here) a (among-so d sig L last ok here)) ∙ e)))
+
+  -- all records of an image are proper exactly when no argument is improper,
+  pub proper-exactly : AllProper L img ↔ ((a : Argument sig) → Improper a img → ⊥)
+  proper-exactly = (
+    (λ h a m.
+        let v : Among L = of d sig L last ok a .among in
+        apart (proper-at img (v .before) (v .here) (v .behind) (subst (λ (K : List Placed). AllProper K img) (v .records) h)) (improper-at a m)),
+    λ h. all-proper img L (λ M s N e.
+        let here : Among L = record { before = M; here = s; behind = N; records = e } in
+        proper-unless here (h (argument-of d sig L last ok here))),
+  )
+
+  -- and the first that is not is that of the first argument that is.
   pub improper-exactly : (place j : ℕ) → ImproperAt img L place j ↔ FirstImproper sig img place j
   improper-exactly place j = (there, back)
     where
@@ -113,44 +141,33 @@ module _ (d : Device) (sig : List ℕ) (L : List Placed) (last : State) (ok : pl
             at = w .placed ∙ sym (length-kinds (w .before));
             improper = so-improper a (sym (tests-as (w .here) a e) ∙ w .improper);
             first = λ b h m.
-                let v : Of d sig L last ok b = of d sig L last ok b in
-                let r : Later (v .among .before) (v .among .here) (w .before) =
-                later (v .among .before) (v .among .here) (v .among .behind) (w .before) (w .here) (w .behind) (sym (v .among .records) ∙ w .records) (omega (arith, v .long, w .placed)) in
-                let p : isProper (v .among .here) img ≡ true =
-                proper-at img (v .among .before) (v .among .here) (r .between) (subst (λ (K : List Placed). AllProper K img) (r .before) (w .proper-before)) in
-                let q : isProper (v .among .here) img ≡ false = tests-as (v .among .here) b (v .placed-so) ∙ improper-so b m in
-                let z : _≡_ {A = ℕ} 0 1 = cc in
-                omega arith;
+                let o : Of d sig L last ok b = of d sig L last ok b in
+                let v : Among L = o .among in
+                let r : Later (v .before) (v .here) (w .before) =
+                later (v .before) (v .here) (v .behind) (w .before) (w .here) (w .behind) (sym (v .records) ∙ w .records) (omega (arith, o .long, w .placed)) in
+                apart (proper-at img (v .before) (v .here) (r .between) (subst (λ (K : List Placed). AllProper K img) (r .before) (w .proper-before))) (improper-at b m);
             number = w .number ∙ number-as (w .here) a e;
           }
 
       back : FirstImproper sig img place j → ImproperAt img L place j
       back w =
-          let v : Of d sig L last ok (w .argument) = of d sig L last ok (w .argument) in
+          let o : Of d sig L last ok (w .argument) = of d sig L last ok (w .argument) in
+          let v : Among L = o .among in
           record {
-            before = v .among .before;
-            here = v .among .here;
-            behind = v .among .behind;
-            records = v .among .records;
-            placed = w .at ∙ sym (v .long);
-            number = w .number ∙ sym (number-as (v .among .here) (w .argument) (v .placed-so));
-            proper-before = all-proper img (v .among .before) (λ M s N e.
+            before = v .before;
+            here = v .here;
+            behind = v .behind;
+            records = v .records;
+            placed = w .at ∙ sym (o .long);
+            number = w .number ∙ sym (number-as (v .here) (w .argument) (o .placed-so));
+            proper-before = all-proper img (v .before) (λ M s N e.
                 let here : Among L = record {
                   before = M;
                   here = s;
-                  behind = N ++ (v .among .here ∷ v .among .behind);
-                  records = v .among .records ∙ ap (λ (K : List Placed). K ++ (v .among .here ∷ v .among .behind)) e ∙ append-assoc M (s ∷ N) (v .among .here ∷ v .among .behind);
+                  behind = N ++ (v .here ∷ v .behind);
+                  records = v .records ∙ ap (λ (K : List Placed). K ++ (v .here ∷ v .behind)) e ∙ append-assoc M (s ∷ N) (v .here ∷ v .behind);
                 } in
-                let n : length M < place = omega (arith, w .at, v .long, ap length e, length-append M (s ∷ N)) in
-                earlier w here n);
-            improper = tests-as (v .among .here) (w .argument) (v .placed-so) ∙ improper-so (w .argument) (w .improper);
+                let n : length (kinds M) < place = omega (arith, w .at, o .long, ap length e, length-append M (s ∷ N), length-kinds M) in
+                proper-unless here (w .first (argument-of d sig L last ok here) n));
+            improper = improper-at (w .argument) (w .improper);
           }
-        where
-          earlier : FirstImproper sig img place j → (here : Among L) → length (here .before) < place → isProper (here .here) img ≡ true
-          earlier w here n = go (isProper (here .here) img) refl
-            where
-              go : (t : Bool) → isProper (here .here) img ≡ t → isProper (here .here) img ≡ true
-              go true e = e
-              go false e =
-                  let a : Argument sig = argument-of d sig L last ok here in
-                  absurd (w .first a (omega (arith, length-kinds (here .before))) (so-improper a (sym (tests-as (here .here) a (among-so d sig L last ok here)) ∙ e)))

@@ -10,3 +10,4 @@ pub mod Nothing
 pub mod Refusing
 pub mod Improper
 pub mod Refusals
+pub mod Demand

@@ -1,11 +1,11 @@
 -- What carries nothing: each argument has the offsets from the end of those before to its own end, and of these only its own bytes are
 -- carried, if it has no floating register.
 -- Assumes nothing.
-use mathlib.Core.Path.{_≡_, refl, sym, ap, ap₂, _∙_, subst}
+use mathlib.Core.Path.{_≡_, refl, sym, ap, _∙_, subst}
 use mathlib.Core.Logic.{_⊎_, inl, inr}
 use mathlib.Core.List.{List, [], _∷_, _++_}
-use mathlib.Core.Bool.{Bool, true, false, cond, _&&_, _||_}
-use Prim.Native.Nat.{ℕ, suc, _+_, _-_, _*_, _≤_, _<_}
+use mathlib.Core.Bool.{Bool, true, false, cond, _&&_}
+use Prim.Native.Nat.{ℕ, _+_, _-_, _*_, _≤_, _<_}
 use native.Mathlib.Omega.{arith}
 use lib.ListN.{length}
 use lib.Dec.{ltb}
@@ -22,7 +22,7 @@ use Rattle.o32.specs.declared.State.{State}
 use Rattle.o32.specs.Kinds.{kindOf, is}
 use Rattle.o32.specs.Offsets.{width, offset, ending}
 use Rattle.o32.specs.O32.{O32, carrier, start}
-use Rattle.placement.specs.Carrying.{endOf, registerBehind, Carries, low, high, single, odd, even, Argument, ArgumentByte, CarriedBy, CarriedByte}
+use Rattle.placement.specs.Carrying.{endOf, registerBehind, low, high, single, odd, even, Argument, ArgumentByte, CarriedBy, CarriedByte}
 use Rattle.placement.specs.Nothing.{endBefore, offsetOf, widthOf, GivenTo, CarriesNothing}
 use Rattle.placement.proofs.KindFacts.{kind-sound, float-width}
 use Rattle.placement.proofs.Laws.{O32-laws, up-ge}

@@ -2,15 +2,15 @@
 -- Assumes nothing.
 use mathlib.Core.Path.{_≡_, refl, sym, ap, _∙_, subst}
 use mathlib.Core.Logic.{_↔_, Iff·trans}
-use mathlib.Core.List.{List, [], _∷_}
-use mathlib.Core.Bool.{Bool, true, false}
-use Prim.Native.Nat.{ℕ, zero, suc, _+_, _≤_, _<_}
+use mathlib.Core.List.{List, [], _∷_, _++_, append-nil}
+use mathlib.Core.Bool.{true, false}
+use Prim.Native.Nat.{ℕ, _+_, _≤_}
 use native.Mathlib.Omega.{arith}
 use lib.ListN.{length}
 use Rattle.device.specs.declared.Device.{Device}
 use Rattle.carried.specs.Image as C
 use Rattle.carried.specs.Image.{Placed, listLength}
-use Rattle.carried.specs.Convention.{bad, good, plan}
+use Rattle.carried.specs.Convention.{good, plan}
 use Rattle.carried.specs.Demand.{kinds}
 use Rattle.carried.proofs.Walks.{Walk, end, one, walk-of, walk-by-kinds}
 use Rattle.o32.specs.declared.State.{State}
@@ -21,29 +21,43 @@ use Rattle.answers.specs.declared.Answer.{Answer}
 use Rattle.answers.specs.Answers.{answerOf, writeInto, readInto}
 use Rattle.answers.proofs.Refusals as A
 use Rattle.answers.proofs.Refusals.{answer-refuses, write-refused, read-refused}
-use Rattle.placement.specs.Carrying.{endOf, imageBytes, listBytes}
-use Rattle.placement.specs.Refusing.{Condition, unknown, misplaced, full, cut, beyond, Accepted, RefusedAt, WriterRefuses, ReaderRefuses, Refuses, Refusals}
+use Rattle.placement.specs.Carrying.{imageBytes, listBytes}
+use Rattle.placement.specs.Refusing.{Accepted, WriterRefuses, ReaderRefuses, Refusals}
 use Rattle.placement.specs.Refusing as R
 use Rattle.placement.proofs.Laws.{O32-laws, O32-carried}
 use Rattle.placement.proofs.Steps.{step-says}
-use Rattle.placement.proofs.Refusing.{end-is, refused-exactly, accepted-exactly}
+use Rattle.placement.proofs.Refusing.{by-record, end-is, refused-exactly, accepted-exactly}
 use Rattle.placement.proofs.Improper.{improper-exactly}
 
 -- ---- lengths
 
+-- each record has the body of its kind
+abbrev Bodied : List Placed → Type 0
+Bodied [] = Unit {0}
+Bodied (s ∷ L) = (s .size ≡ kindOf (s .kind) .size) × Bodied L
+
+bodied-left : (M N : List Placed) → Bodied (M ++ N) → Bodied M
+bodied-left [] N h = tt
+bodied-left (s ∷ M) N h = (h .0, bodied-left M N (h .1))
+
+bodied-list : (L : List Placed) → Bodied L → listLength L ≡ listBytes (kinds L)
+bodied-list [] h = refl
+bodied-list (s ∷ L) h = omega (arith, h .0, bodied-list L (h .1))
+
 module _ (d : Device) where
-  walk-list : {st last : State} {ks : List ℕ} {L : List Placed} → Walk (O32 d) (O32-laws d) st ks L last → listLength L ≡ listBytes ks
-  walk-list end = refl
-  walk-list (one {st = st} {st′ = st′} {k = k} {j = j} {p = p} e f w) =
-      let s : p .kind .size ≡ kindOf k .size = ap (λ (q : Placement). q .kind .size) (step-says d st k j p st′ e .at) in
-      omega (arith, s, walk-list w)
+  walk-bodied : {st last : State} {ks : List ℕ} {L : List Placed} → Walk (O32 d) (O32-laws d) st ks L last → Bodied L
+  walk-bodied end = tt
+  walk-bodied (one {st = st} {st′ = st′} {k = k} {j = j} {p = p} e f w) = (ap (λ (q : Placement). q .kind .size) (step-says d st k j p st′ e .at), walk-bodied w)
 
   walk-image : {last : State} {ks : List ℕ} {L : List Placed} → Walk (O32 d) (O32-laws d) start ks L last → 32 + area (last .end) ≡ imageBytes ks
   walk-image w = ap (λ (e : ℕ). 32 + area e) (end-is d w)
 
-  -- of a signature
+  -- of a signature, and of a part of it
+  pub part-long : (sig : List ℕ) (L : List Placed) (last : State) → plan (O32 d) false sig ≡ good L last → (M N : List Placed) → L ≡ M ++ N → listLength M ≡ listBytes (kinds M)
+  part-long sig L last ok M N e = bodied-list M (bodied-left M N (subst Bodied e (walk-bodied (walk-of (O32 d) (O32-laws d) sig start L last 0 ok))))
+
   pub list-long : (sig : List ℕ) (L : List Placed) (last : State) → plan (O32 d) false sig ≡ good L last → listLength L ≡ listBytes sig
-  list-long sig L last ok = walk-list (walk-of (O32 d) (O32-laws d) sig start L last 0 ok)
+  list-long sig L last ok = part-long sig L last ok L [] (sym (append-nil L)) ∙ ap listBytes (O32-carried d sig L last ok .signature)
 
   pub image-long : (sig : List ℕ) (L : List Placed) (last : State) → plan (O32 d) false sig ≡ good L last → 32 + area (last .end) ≡ imageBytes sig
   image-long sig L last ok = walk-image (walk-of (O32 d) (O32-laws d) sig start L last 0 ok)
@@ -93,22 +107,12 @@ module _ (d : Device) where
   -- ---- what they answer
 
   -- a refusal has a number
-  by-record-numbered : {bodies : Bool} {l : List ℕ} {r place j : ℕ} → RefusedAt d bodies l r place j → 1 ≤ r
-  by-record-numbered v = go (v .holds)
-    where
-      go : {bodies : Bool} {ks : List ℕ} {k left r : ℕ} → Condition bodies ks k left r → 1 ≤ r
-      go (unknown e x) = omega arith
-      go (misplaced e x) = omega arith
-      go (full e x y) = omega arith
-      go (cut e x y) = omega arith
-      go (beyond e x y) = omega arith
-
   writer-numbered : {list : List ℕ} {room r place j : ℕ} → WriterRefuses d list room r place j → 1 ≤ r
-  writer-numbered (R.by-record v) = by-record-numbered v
+  writer-numbered (R.by-record v) = by-record (v .holds) .0
   writer-numbered (R.seven ks a h x y z) = omega arith
 
   reader-numbered : {sig img : List ℕ} {room r place j : ℕ} → ReaderRefuses d sig img room r place j → 1 ≤ r
-  reader-numbered (R.by-record v) = by-record-numbered v
+  reader-numbered (R.by-record v) = by-record (v .holds) .0
   reader-numbered (R.six a h x y z) = omega arith
   reader-numbered (R.seven a g h x y z) = omega arith
   reader-numbered (R.eight a g h x w) = omega arith

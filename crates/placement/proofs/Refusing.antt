@@ -2,7 +2,7 @@
 -- Assumes nothing.
 use mathlib.Core.Path.{_≡_, refl, sym, ap, _∙_, subst}
 use mathlib.Core.Logic.{_⊎_, _↔_, inl, inr}
-use mathlib.Core.List.{List, [], _∷_, _++_}
+use mathlib.Core.List.{List, [], _∷_}
 use mathlib.Core.Bool.{Bool, true, false, cond, not, _&&_, _||_}
 use Prim.Native.Nat.{ℕ, _+_, _-_, _≤_, _<_}
 use native.Mathlib.Omega.{arith}
@@ -27,9 +27,17 @@ use Rattle.placement.specs.Carrying.{endOf}
 use Rattle.placement.specs.Refusing.{countOf, argumentsIn, argumentBehind, Misplaced, Condition, unknown, misplaced, full, cut, beyond, Accepted, RefusedAt}
 use Rattle.placement.proofs.Laws.{O32-laws}
 use Rattle.placement.proofs.Steps.{Stepped, step-says}
-use Rattle.placement.proofs.Carrying.{reach, reach-end}
+use Rattle.placement.proofs.Carrying.{reach-end}
 use Rattle.placement.proofs.Numbering.{reach-count, number-behind, walk-reach}
 use Rattle.placement.proofs.Bounds.{unmarked, not-full, step-grows}
+
+-- the refusals by record are 1 to 5
+pub by-record : {bodies : Bool} {ks : List ℕ} {k left r : ℕ} → Condition bodies ks k left r → (1 ≤ r) × (r ≤ 5)
+by-record (unknown e x) = (omega arith, omega arith)
+by-record (misplaced e x) = (omega arith, omega arith)
+by-record (full e x y) = (omega arith, omega arith)
+by-record (cut e x y) = (omega arith, omega arith)
+by-record (beyond e x y) = (omega arith, omega arith)
 
 -- ---- what the state behind accepted kinds has of them
 
@@ -154,17 +162,23 @@ module _ (d : Device) {ks : List ℕ} {L : List Placed} {last : State} (w : Walk
     tested = Apart (is Marker (kindOf k)) (last .marked) (leb (last .count) (bit (last .pointer))) (is Pointer (kindOf k)) (eqb (last .count) 0)
 
     misplaced-so : tested → Misplaced ks k
-    misplaced-so (inl h) = inl (h .0, elim (h .1) [
-      | inl x ↦ inl (omega (arith, so .markers, ap bit x))
-      | inr x ↦ inr (omega (arith, so .pointers, count-is, pointers-le ks, leb-true (last .count) (bit (last .pointer)) x))
-    ])
+    misplaced-so (inl h) = inl (
+      h .0,
+      elim (h .1) [
+        | inl x ↦ inl (omega (arith, so .markers, ap bit x))
+        | inr x ↦ inr (omega (arith, so .pointers, count-is, pointers-le ks, leb-true (last .count) (bit (last .pointer)) x))
+      ],
+    )
     misplaced-so (inr h) = inr (h .0, omega (arith, count-is, eqb-false (last .count) 0 (h .1)))
 
     so-misplaced : Misplaced ks k → tested
-    so-misplaced (inl h) = inl (h .0, elim (h .1) [
-      | inl x ↦ inl (is-set (last .marked) (omega (arith, so .markers)))
-      | inr x ↦ inr (le-leb (last .count) (bit (last .pointer)) (omega (arith, so .pointers, count-is)))
-    ])
+    so-misplaced (inl h) = inl (
+      h .0,
+      elim (h .1) [
+        | inl x ↦ inl (is-set (last .marked) (omega (arith, so .markers)))
+        | inr x ↦ inr (le-leb (last .count) (bit (last .pointer)) (omega (arith, so .pointers, count-is)))
+      ],
+    )
     so-misplaced (inr h) = inr (h .0, ne-eqb (last .count) 0 (λ e. omega (arith, count-is, h .1)))
 
     module _ (bodies : Bool) (left : ℕ) where
@@ -253,13 +267,6 @@ module _ (d : Device) {ks : List ℕ} {L : List Placed} {last : State} (w : Walk
         λ h. go (taken (O32 d) bodies left last k) judged (h .0) (h .1) (h .2),
       )
         where
-          at-most : {q : ℕ} → Condition bodies ks k left q → q < 6
-          at-most (unknown e x) = omega arith
-          at-most (misplaced e x) = omega arith
-          at-most (full e x y) = omega arith
-          at-most (cut e x y) = omega arith
-          at-most (beyond e x y) = omega arith
-
           go : (s : Step Placement State) → Judged s → Condition bodies ks k left r → ((q : ℕ) → q < r → Condition bodies ks k left q → ⊥) → j ≡ argumentBehind ks k → s ≡ refuse r j
           go (refuse r′ j′) v h f n = orders (ltb r r′) (ltb r′ r) refl refl
             where
@@ -270,7 +277,7 @@ module _ (d : Device) {ks : List ℕ} {L : List Placed} {last : State} (w : Walk
                   let e : r′ ≡ r = omega (arith, ltb-false r r′ x, ltb-false r′ r y) in
                   let g : j′ ≡ j = v .2 ∙ sym n in
                   rw (e, g) refl
-          go (next j′ p st) v h f n = absurd (passed v r (at-most h) h)
+          go (next j′ p st) v h f n = absurd (passed v r (omega (arith, by-record h)) h)
 
 -- ---- a list or a signature
 

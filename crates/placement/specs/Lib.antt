@@ -1,4 +1,5 @@
 pub mod Carrying
 pub mod Nothing
 pub mod Refusing
+pub mod Demand
 pub mod Fitting

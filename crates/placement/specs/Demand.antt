@@ -1,0 +1,59 @@
+-- Demand 3, the carried bytes, of what a reader and a writer of O32 answer and leave in the lent buffers. `functionsOf (O32 d)`
+-- (answers/specs/Demand.antt) are `read` and `write` on a device, as their contracts say.
+use mathlib.Core.Path.{_≡_}
+use mathlib.Core.Logic.{_↔_}
+use mathlib.Core.List.{List}
+use Prim.Native.Nat.{ℕ, _+_, _≤_, _<_}
+use lib.ListN.{length, getD, take, drop}
+use Rattle.words.specs.Words.{promote}
+use Rattle.device.specs.declared.Device.{Device}
+use Rattle.o32.specs.Kinds.{kindOf}
+use Rattle.o32.specs.Offsets.{extension}
+use Rattle.answers.specs.Demand.{Functions, PastSignature, AcceptedSignature, Lent, Accepts, readingOf, Rewritings}
+use Rattle.placement.specs.Carrying.{Argument, ArgumentByte, CarriedBy, CarriedByte, imageBytes, listBytes}
+use Rattle.placement.specs.Nothing.{CarriesNothing}
+use Rattle.placement.specs.Refusing.{Improper}
+
+-- Where the record of an argument stands in a list of the signature, and its body there.
+abbrev pub recordAt : {sig : List ℕ} → Argument sig → ℕ
+recordAt a = listBytes (a .before)
+
+abbrev pub bodyIn : {sig : List ℕ} → Argument sig → List ℕ → List ℕ
+bodyIn a list = take (kindOf (a .kind) .size) (drop (recordAt a + 1) list)
+
+-- Buffers that are long enough for the lists and the images of a signature.
+abbrev pub Buffers : List ℕ → Type 0
+Buffers sig = Lent (listBytes sig) (imageBytes sig)
+
+-- At one accepted signature.
+pub record CarriedBytes (f : Functions) (d : Device) (sig : List ℕ) : Type 0 where
+  -- "The carried bytes are those that the placement rules give to arguments (`CarriedByte`): each argument byte, after promotion, has
+  -- exactly one,
+  pub one : (b : ArgumentByte sig) → (p : ℕ) × CarriedBy d b p × ((q : ℕ) → CarriedBy d b q → q ≡ p)
+  -- none shared;
+  pub none-shared : (b c : ArgumentByte sig) (p : ℕ) → CarriedBy d b p → CarriedBy d c p
+      → (length (b .argument .before) ≡ length (c .argument .before)) × (b .index ≡ c .index)
+  pub inside : (p : ℕ) → CarriedByte d sig p → p < imageBytes sig
+  -- structure fill carries nothing", nor does any other byte that the rules give to no argument.
+  pub nothing : CarriesNothing d sig
+  -- A buffer of 1,057 bytes is always long enough for a list, and one of 1,056 for an image.
+  pub enough : (listBytes sig ≤ 1057) × (48 ≤ imageBytes sig) × (imageBytes sig ≤ 1056)
+  -- "An image is accepted for it when none of the reader's refusals but 7 holds": neither 6 nor 8.
+  pub accepted : (u : Buffers sig) (a : List ℕ) → Accepts f sig u a ↔ ((length a ≡ imageBytes sig) × ((b : Argument sig) → Improper b a → ⊥))
+  -- "The reading is the list that the reader writes: the signature's kind bytes in order, each followed by the body whose bytes, after
+  -- promotion, are those that the image carries for it".
+  pub reading-length : (u : Buffers sig) (a : List ℕ) → Accepts f sig u a → length (readingOf f sig u a) ≡ listBytes sig
+  pub reading-kinds : (u : Buffers sig) (a : List ℕ) → Accepts f sig u a → (b : Argument sig) → getD (readingOf f sig u a) (recordAt b) 0 ≡ b .kind
+  pub reading-bodies : (u : Buffers sig) (a : List ℕ) → Accepts f sig u a → (b : ArgumentByte sig) (p : ℕ) → CarriedBy d b p
+      → getD (promote (extension (kindOf (b .argument .kind))) (bodyIn (b .argument) (readingOf f sig u a))) (b .index) 0 ≡ getD a p 0
+  -- And what the demand says of accepted images, their readings and their rewritings.
+  pub images : Rewritings f sig (listBytes sig) (imageBytes sig) (CarriedByte d sig)
+
+-- "one claim about writer and reader, over all accepted signatures and all images accepted for them".
+pub record Demand (f : Functions) (d : Device) : Type 0 where
+  pub carried : (sig : List ℕ) → AcceptedSignature f sig → CarriedBytes f d sig
+  -- One answer of the reader tells whether a signature is accepted.
+  pub told : (sig img out : List ℕ) → PastSignature (f .read sig img out .refusal) → AcceptedSignature f sig
+  -- No buffers shorter than 1,057 and 1,056 bytes are enough for all.
+  pub longest-list : (sig : List ℕ) × AcceptedSignature f sig × (listBytes sig ≡ 1057)
+  pub longest-image : (sig : List ℕ) × AcceptedSignature f sig × (imageBytes sig ≡ 1056)
