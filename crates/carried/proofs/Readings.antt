@@ -26,7 +26,7 @@ rewriting n L img = image n L (reading L img)
 
 -- an image has its length
 pub image-length : (n : ℕ) (L : List Placed) (l : List ℕ) → length (image n L l) ≡ n
-image-length n L l = length-put (replicate n 0) (carried L) (promotedBytes L l) ∙ length-replicate n 0
+image-length n L l = length-put (replicate n _) (carried L) (promotedBytes L l) ∙ length-replicate n _
 
 -- a body has its size
 pub length-body : (s : Placed) (img : List ℕ) → s .size ≤ length (s .carriers) → length (body (s .size) (bytesIn s img)) ≡ s .size

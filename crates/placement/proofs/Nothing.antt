@@ -221,17 +221,15 @@ module _ (d : Device) (sig : List ℕ) where
         | laid b n ↦ omega (arith, only a x (omega (arith, b)) (omega (arith, n, up-ge 4 (widthOf a) (omega arith))) m .0)
       ];
       unused = λ x h m. let o : Own x = own x m in omega (arith, own-lies o, all-end (o .argument));
-      homes = λ p h g m. homes-empty p h g (where-is (m .0) p (m .1));
-      floats = λ g h l none p a b m. ungiven g h l none p a b (where-is (m .0) p (m .1));
+      homes = λ p h g m. elim (where-is (m .0) p (m .1)) [
+        | at-offset x z e q ↦ elim (carrier-cases x) [ inl y ↦ omega arith | inr y ↦ omega arith ]
+        | in-float f w r s ↦ omega arith
+      ];
+      floats = λ g h l none p a b m. elim (where-is (m .0) p (m .1)) [
+        | at-offset x z e q ↦ elim (carrier-cases x) [ inl y ↦ omega arith | inr y ↦ omega arith ]
+        | in-float f w r s ↦ let e : f ≡ g = omega arith in none (m .0 .argument) (subst (GivenTo d (m .0 .argument)) e w)
+      ];
     }
-      where
-        homes-empty : (p : ℕ) → 32 ≤ p → p < 48 → {b : ArgumentByte sig} → Where d b p → ⊥
-        homes-empty p h g (at-offset x z e q) = elim (carrier-cases x) [ inl y ↦ omega arith | inr y ↦ omega arith ]
-        homes-empty p h g (in-float f w r s) = omega arith
-
-        ungiven : (g : ℕ) → 12 ≤ g → g < 16 → ((a : Argument sig) → GivenTo d a g → ⊥) → (p : ℕ) → 16 + 4 * (g - 12) ≤ p → p < 20 + 4 * (g - 12) → {b : ArgumentByte sig} → Where d b p → ⊥
-        ungiven g h l none p a c {b} (at-offset x z e q) = elim (carrier-cases x) [ inl y ↦ omega arith | inr y ↦ omega arith ]
-        ungiven g h l none p a c {b} (in-float f w r s) = let e : f ≡ g = omega arith in none (b .argument) (subst (GivenTo d (b .argument)) e w)
 
 -- at every accepted signature, on every device
 pub carries-nothing : (d : Device) (sig : List ℕ) (L : List Placed) (last : State) → plan (O32 d) false sig ≡ good L last → CarriesNothing d sig

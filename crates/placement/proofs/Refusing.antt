@@ -183,19 +183,8 @@ module _ (d : Device) {ks : List ℕ} {L : List Placed} {last : State} (w : Walk
 
     module _ (bodies : Bool) (left : ℕ) where
       -- no condition with a number below r holds
-      record Passed (r : ℕ) : Type 0 where
-        one : 1 < r → is Unknown (kindOf k) ≡ true → ⊥
-        two : 2 < r → Misplaced ks k → ⊥
-        three : 3 < r → is Marker (kindOf k) ≡ false → argumentsIn ks ≡ 32 → ⊥
-        four : 4 < r → bodies ≡ true → left < kindOf k .size → ⊥
-        five : 5 < r → is Marker (kindOf k) ≡ false → 1024 < ending (kindOf k) (endOf 0 ks) → ⊥
-
-      passed : {r : ℕ} → Passed r → (q : ℕ) → q < r → Condition bodies ks k left q → ⊥
-      passed v q h (unknown e x) = v .one (omega arith) x
-      passed v q h (misplaced e x) = v .two (omega arith) x
-      passed v q h (full e x y) = v .three (omega arith) x y
-      passed v q h (cut e x y) = v .four (omega arith) x y
-      passed v q h (beyond e x y) = v .five (omega arith) x y
+      abbrev Passed : ℕ → Type 0
+      Passed r = (q : ℕ) → q < r → Condition bodies ks k left q → ⊥
 
       -- where the tests with a number below r fail
       untrue : (b : Bool) → b ≡ false → b ≡ true → ⊥
@@ -206,13 +195,13 @@ module _ (d : Device) {ks : List ℕ} {L : List Placed} {last : State} (w : Walk
 
       tests-passed : (r : ℕ) → (1 < r → is Unknown (kindOf k) ≡ false) → (2 < r → O.misplaced last (kindOf k) ≡ false) → (3 < r → O.full last (kindOf k) ≡ false)
           → (4 < r → ltb left (behind bodies (kindOf k .size)) ≡ false) → (5 < r → leb (onward last (kindOf k) .end) 1024 ≡ true) → Passed r
-      tests-passed r a b c e f = record {
-        one = λ h x. untrue (is Unknown (kindOf k)) (a h) x;
-        two = λ h x. untrue (O.misplaced last (kindOf k)) (b h) (apart-test (is Marker (kindOf k)) (last .marked) _ (is Pointer (kindOf k)) _ (so-misplaced x));
-        three = λ h x y. omega (arith, count-is, leb-false 32 (last .count) (not-full (is Marker (kindOf k)) (leb 32 (last .count)) (c h) x));
-        four = λ h x y. let z : ltb left (kindOf k .size) ≡ false = rw x at (e h) in omega (arith, ltb-false left (kindOf k .size) z);
-        five = λ h x y. omega (arith, leb-true (onward last (kindOf k) .end) 1024 (f h), onward-end x);
-      }
+      tests-passed r a b c e f q h (unknown x y) = untrue (is Unknown (kindOf k)) (a (omega arith)) y
+      tests-passed r a b c e f q h (misplaced x y) =
+          untrue (O.misplaced last (kindOf k)) (b (omega arith)) (apart-test (is Marker (kindOf k)) (last .marked) _ (is Pointer (kindOf k)) _ (so-misplaced y))
+      tests-passed r a b c e f q h (full x y z) =
+          omega (arith, count-is, leb-false 32 (last .count) (not-full (is Marker (kindOf k)) (leb 32 (last .count)) (c (omega arith)) y))
+      tests-passed r a b c e f q h (cut x y z) = let i : ltb left (kindOf k .size) ≡ false = rw y at (e (omega arith)) in omega (arith, ltb-false left (kindOf k .size) i)
+      tests-passed r a b c e f q h (beyond x y z) = omega (arith, leb-true (onward last (kindOf k) .end) 1024 (f (omega arith)), onward-end y)
 
       abbrev Judged : Step Placement State → Type 0
       Judged (refuse r j) = Condition bodies ks k left r × Passed r × (j ≡ argumentBehind ks k)
@@ -263,7 +252,7 @@ module _ (d : Device) {ks : List ℕ} {L : List Placed} {last : State} (w : Walk
       refused-first : (r j : ℕ) → (taken (O32 d) bodies left last k ≡ refuse r j)
           ↔ (Condition bodies ks k left r × ((q : ℕ) → q < r → Condition bodies ks k left q → ⊥) × (j ≡ argumentBehind ks k))
       refused-first r j = (
-        (λ e. let v : Judged (refuse r j) = subst Judged e judged in (v .0, passed (v .1), v .2)),
+        (λ e. subst Judged e judged),
         λ h. go (taken (O32 d) bodies left last k) judged (h .0) (h .1) (h .2),
       )
         where
@@ -271,13 +260,13 @@ module _ (d : Device) {ks : List ℕ} {L : List Placed} {last : State} (w : Walk
           go (refuse r′ j′) v h f n = orders (ltb r r′) (ltb r′ r) refl refl
             where
               orders : (t u : Bool) → ltb r r′ ≡ t → ltb r′ r ≡ u → _≡_ {A = Step Placement State} (refuse r′ j′) (refuse r j)
-              orders true u x y = absurd (passed (v .1) r (ltb-true r r′ x) h)
+              orders true u x y = absurd (v .1 r (ltb-true r r′ x) h)
               orders false true x y = absurd (f r′ (ltb-true r′ r y) (v .0))
               orders false false x y =
                   let e : r′ ≡ r = omega (arith, ltb-false r r′ x, ltb-false r′ r y) in
                   let g : j′ ≡ j = v .2 ∙ sym n in
                   rw (e, g) refl
-          go (next j′ p st) v h f n = absurd (passed v r (omega (arith, by-record h)) h)
+          go (next j′ p st) v h f n = absurd (v r (omega (arith, by-record h)) h)
 
 -- ---- a list or a signature
 
