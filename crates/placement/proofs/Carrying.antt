@@ -9,8 +9,8 @@ use native.Mathlib.Omega.{arith}
 use native.Mathlib.Nat.{zero-add}
 use lib.ListN.{length, getD, List·getD-append}
 use lib.Seq.{getD-append-add}
-use lib.Dec.{eqb}
-use borrow.Author.Tests.{lt-ltb, le-ltb, ne-eqb}
+use lib.Dec.{eqb, ltb}
+use borrow.Author.Tests.{lt-ltb, le-ltb, ltb-true, ltb-false, ne-eqb}
 use Rattle.device.specs.declared.Device.{Device}
 use Rattle.device.specs.declared.Device.the-variants.{Fpu, NoFpu}
 use Rattle.carried.specs.Image.{Placed, carried}
@@ -25,7 +25,7 @@ use Rattle.o32.specs.declared.Placement.{Placement}
 use Rattle.o32.specs.Kinds.{kindOf, is}
 use Rattle.o32.specs.Offsets.{width, offset, ending}
 use Rattle.o32.specs.O32.{floatRegister, register, run, floatRegisters, registerBytes, floatBytes, carrier, carriers, misplaced, argument, onward, placement, start, O32}
-use Rattle.placement.specs.Carrying.{endOf, registerBehind, CarriedAt, InRuns}
+use Rattle.placement.specs.Carrying.{endOf, registerBehind, Carries, low, high, single, odd, even, CarriedAt, InRuns}
 use Rattle.placement.proofs.KindFacts.{kind-sound, structure, unpromoted-width, float-width}
 use Rattle.placement.proofs.Steps.{Stepped, Says, says}
 use Rattle.placement.proofs.Laws.{O32-laws, span, span-outside, length-span, length-float}
@@ -229,16 +229,49 @@ module _ (d : Device) (before : List ℕ) (k j : ℕ) (s : Placed)
       let q : cs ≡ floatBytes (registerBehind d before k) n = by-register h ∙ ap (floatBytes (registerBehind d before k)) z in
       rw (q, e) (getD-register (floatRegisters (registerBehind d before k) n) j i m l)
 
+  module _ (i : ℕ) (l : i < width (kindOf k)) where
+    float-long : 1 ≤ registerBehind d before k → width (kindOf k) ≡ kindOf k .size
+    float-long h = float-width (kindOf k) (floats-only d before k h)
+
+    -- carrier i is the byte that the rules name,
+    carries-as : Carries d before k i (getD cs i 0)
+    carries-as = go (registerBehind d before k) refl
+      where
+        laid : registerBehind d before k ≡ 0 → (t : Bool) → ltb (offset (kindOf k) (endOf 0 before) + i) 16 ≡ t → Carries d before k i (getD cs i 0)
+        laid z true e =
+            let h = ltb-true (offset (kindOf k) (endOf 0 before) + i) 16 e in
+            low _ z refl h (at-byte z _ i refl (omega (arith, carried-long 0 z)) ∙ carrier-low (offset (kindOf k) (endOf 0 before) + i) h)
+        laid z false e =
+            let h = ltb-false (offset (kindOf k) (endOf 0 before) + i) 16 e in
+            high _ z refl h (at-byte z _ i refl (omega (arith, carried-long 0 z)) ∙ carrier-high (offset (kindOf k) (endOf 0 before) + i) h)
+
+        pair : (f : ℕ) → registerBehind d before k ≡ suc f → kindOf k .size ≡ 8 → i < 8 → (t : Bool) → ltb i 4 ≡ t → Carries d before k i (getD cs i 0)
+        pair f e z h true t = let g = ltb-true i 4 t in odd _ refl (omega arith) z g (in-register (omega arith) z 0 i i (omega arith) g (omega arith))
+        pair f e z h false t = let g = ltb-false i 4 t in even _ refl (omega arith) z g (in-register (omega arith) z 1 (i - 4) i (omega arith) (omega arith) (omega arith))
+
+        go : (f : ℕ) → registerBehind d before k ≡ f → Carries d before k i (getD cs i 0)
+        go zero e = laid e (ltb (offset (kindOf k) (endOf 0 before) + i) 16) refl
+        go (suc f) e =
+            let n = float-long (omega arith) in
+            elim (kind-sound k .floats (floats-only d before k (omega arith))) [
+              | inl z ↦ single _ refl (omega arith) z (in-register (omega arith) z 0 i i (omega arith) (omega arith) (omega arith))
+              | inr z ↦ pair f e z (omega arith) (ltb i 4) refl
+            ]
+
+    -- and no other
+    carries-only : (p : ℕ) → Carries d before k i p → getD cs i 0 ≡ p
+    carries-only p (low o z e h g) = at-byte z o i e (omega (arith, carried-long 0 z)) ∙ carrier-low (o + i) h ∙ sym g
+    carries-only p (high o z e h g) = at-byte z o i e (omega (arith, carried-long 0 z)) ∙ carrier-high (o + i) h ∙ sym g
+    carries-only p (single f e h z g) = let n = float-long (omega arith) in rw (g, ← e) (in-register (omega arith) z 0 i i (omega arith) (omega arith) (omega arith))
+    carries-only p (odd f e h z m g) = rw (g, ← e) (in-register (omega arith) z 0 i i (omega arith) m (omega arith))
+    carries-only p (even f e h z m g) = let n = float-long (omega arith) in rw (g, ← e) (in-register (omega arith) z 1 (i - 4) i (omega arith) (omega arith) (omega arith))
+
   law : CarriedAt d before k s
   law = record {
     size = ap (λ (x : Placed). x .size) is-so;
     promotion = ap (λ (x : Placed). x .extension) is-so;
     long = carried-long (registerBehind d before k) refl;
-    low = λ z o i e h l. at-byte z o i e h ∙ carrier-low (o + i) l;
-    high = λ z o i e h l. at-byte z o i e h ∙ carrier-high (o + i) l;
-    single = λ f e h z i l. rw (← e) (in-register (omega arith) z 0 i i (omega arith) l (omega arith));
-    odd = λ f e h z i l. rw (← e) (in-register (omega arith) z 0 i i (omega arith) l (omega arith));
-    even = λ f e h z i l. rw (← e) (in-register (omega arith) z 1 i (4 + i) (omega arith) l (omega arith));
+    bytes = λ i p l. ((λ e. subst (Carries d before k i) e (carries-as i l)), carries-only i l p);
   }
 
 -- At every accepted signature, the record of every kind byte is placed by the kinds before,

@@ -26,7 +26,7 @@ use Rattle.placement.specs.Refusing.{Improper}
 use Rattle.placement.specs.Demand.{recordAt, bodyIn, Buffers, CarriedBytes, Demand}
 use Rattle.placement.proofs.Laws.{O32-laws, O32-carried}
 use Rattle.placement.proofs.Bounds.{plan-bound, reading-long}
-use Rattle.placement.proofs.Bytes.{Of, of, carried-exactly, one-byte, none-shared, bytes-inside, carries-only}
+use Rattle.placement.proofs.Bytes.{Of, of, carried-exactly, one-byte, none-shared, bytes-inside}
 use Rattle.placement.proofs.Nothing.{carries-nothing}
 use Rattle.placement.proofs.Refusing.{by-record, refused-exactly}
 use Rattle.placement.proofs.Refusals.{part-long, list-long, image-long}
@@ -153,7 +153,7 @@ module _ (d : Device) where
       body-byte b p c =
           ap (λ (y : List ℕ). getD y (b .index) 0) (promoted-body (b .argument))
           ∙ getD-gather a (here (b .argument) .carriers) (b .index) (omega (arith, w (b .argument) .carried-so .long, b .inside))
-          ∙ ap (λ (q : ℕ). getD a q 0) (carries-only (w (b .argument) .carried-so) (b .index) (b .inside) p c)
+          ∙ ap (λ (q : ℕ). getD a q 0) (w (b .argument) .carried-so .bytes (b .index) p (b .inside) .1 c)
 
     accepted-by : (u : Buffers sig) (a : List ℕ) → Accepts (functionsOf (O32 d)) sig u a ↔ ((length a ≡ imageBytes sig) × ((b : Argument sig) → Improper b a → ⊥))
     unfolding lent

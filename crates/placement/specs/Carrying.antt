@@ -1,5 +1,6 @@
 -- Which image byte carries which byte of an argument, said of the kinds that stand before it ("The image").
 use mathlib.Core.Path.{_≡_}
+use mathlib.Core.Logic.{_↔_}
 use mathlib.Core.List.{List, [], _∷_, _++_}
 use mathlib.Core.Bool.{cond, _&&_}
 use Prim.Native.Nat.{ℕ, _+_, _-_, _*_, _≤_, _<_, min}
@@ -26,32 +27,24 @@ registerBehind Fpu [] k = cond (is Float (kindOf k)) 12 0
 registerBehind Fpu (j ∷ []) k = cond (is Float (kindOf j) && is Float (kindOf k)) 14 0
 registerBehind Fpu (j ∷ i ∷ js) k = 0
 
--- "Byte i (from 0) of an argument at offset o is carried by image byte o + i where o + i is below 16, else by image byte
--- 32 + o + i. An argument of rule 3 has instead the bytes of the register words which that rule names, in its order."
+-- Image byte p carries byte i of the argument of kind k behind these kinds.
+pub data Carries (d : Device) (before : List ℕ) (k i p : ℕ) : Type 0 where
+  -- "Byte i (from 0) of an argument at offset o is carried by image byte o + i where o + i is below 16,
+  low : (o : ℕ) → registerBehind d before k ≡ 0 → o ≡ offset (kindOf k) (endOf 0 before) → o + i < 16 → p ≡ o + i → Carries d before k i p
+  -- else by image byte 32 + o + i.
+  high : (o : ℕ) → registerBehind d before k ≡ 0 → o ≡ offset (kindOf k) (endOf 0 before) → 16 ≤ o + i → p ≡ 32 + (o + i) → Carries d before k i p
+  -- An argument of rule 3 has instead the bytes of the register words which that rule names, in its order."
+  single : (f : ℕ) → registerBehind d before k ≡ f → 1 ≤ f → kindOf k .size ≡ 4 → p ≡ 16 + 4 * (f - 12) + i → Carries d before k i p
+  -- of a double, as request (i) of document 02 mends rule 3: the first four bytes in the odd register, the next four in the even one
+  odd : (f : ℕ) → registerBehind d before k ≡ f → 1 ≤ f → kindOf k .size ≡ 8 → i < 4 → p ≡ 16 + 4 * (f + 1 - 12) + i → Carries d before k i p
+  even : (f : ℕ) → registerBehind d before k ≡ f → 1 ≤ f → kindOf k .size ≡ 8 → 4 ≤ i → p ≡ 16 + 4 * (f - 12) + (i - 4) → Carries d before k i p
+
+-- The record of this kind is so placed: it has as many carriers as bytes after promotion, and carrier i is the one that carries byte i.
 pub record CarriedAt (d : Device) (before : List ℕ) (k : ℕ) (s : Placed) : Type 0 where
   pub size : s .size ≡ kindOf k .size
   pub promotion : s .extension ≡ extension (kindOf k)
   pub long : length (s .carriers) ≡ width (kindOf k)
-  pub low : registerBehind d before k ≡ 0 → (o i : ℕ) → o ≡ offset (kindOf k) (endOf 0 before) → i < length (s .carriers) → o + i < 16
-      → getD (s .carriers) i 0 ≡ o + i
-  pub high : registerBehind d before k ≡ 0 → (o i : ℕ) → o ≡ offset (kindOf k) (endOf 0 before) → i < length (s .carriers) → 16 ≤ o + i
-      → getD (s .carriers) i 0 ≡ 32 + (o + i)
-  pub single : (f : ℕ) → registerBehind d before k ≡ f → 1 ≤ f → kindOf k .size ≡ 4
-      → (i : ℕ) → i < 4 → getD (s .carriers) i 0 ≡ 16 + 4 * (f - 12) + i
-  -- of a double, as request (i) of document 02 mends rule 3: the first four bytes in the odd register, the next four in the even one
-  pub odd : (f : ℕ) → registerBehind d before k ≡ f → 1 ≤ f → kindOf k .size ≡ 8
-      → (i : ℕ) → i < 4 → getD (s .carriers) i 0 ≡ 16 + 4 * (f + 1 - 12) + i
-  pub even : (f : ℕ) → registerBehind d before k ≡ f → 1 ≤ f → kindOf k .size ≡ 8
-      → (i : ℕ) → i < 4 → getD (s .carriers) (4 + i) 0 ≡ 16 + 4 * (f - 12) + i
-
--- Image byte p carries byte i of the argument of kind k behind these kinds. The same sentences, said of one byte: each way in which a
--- byte is carried.
-pub data Carries (d : Device) (before : List ℕ) (k i p : ℕ) : Type 0 where
-  low : (o : ℕ) → registerBehind d before k ≡ 0 → o ≡ offset (kindOf k) (endOf 0 before) → o + i < 16 → p ≡ o + i → Carries d before k i p
-  high : (o : ℕ) → registerBehind d before k ≡ 0 → o ≡ offset (kindOf k) (endOf 0 before) → 16 ≤ o + i → p ≡ 32 + (o + i) → Carries d before k i p
-  single : (f : ℕ) → registerBehind d before k ≡ f → 1 ≤ f → kindOf k .size ≡ 4 → p ≡ 16 + 4 * (f - 12) + i → Carries d before k i p
-  odd : (f : ℕ) → registerBehind d before k ≡ f → 1 ≤ f → kindOf k .size ≡ 8 → i < 4 → p ≡ 16 + 4 * (f + 1 - 12) + i → Carries d before k i p
-  even : (f : ℕ) → registerBehind d before k ≡ f → 1 ≤ f → kindOf k .size ≡ 8 → 4 ≤ i → p ≡ 16 + 4 * (f - 12) + (i - 4) → Carries d before k i p
+  pub bytes : (i p : ℕ) → i < width (kindOf k) → (getD (s .carriers) i 0 ≡ p) ↔ Carries d before k i p
 
 -- A kind of a signature with the kinds before and behind it.
 pub record Argument (sig : List ℕ) : Type 0 where
