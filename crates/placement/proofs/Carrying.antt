@@ -13,10 +13,8 @@ use lib.Dec.{eqb, ltb}
 use borrow.Author.Tests.{lt-ltb, le-ltb, ltb-true, ltb-false, ne-eqb}
 use Rattle.device.specs.declared.Device.{Device}
 use Rattle.device.specs.declared.Device.the-variants.{Fpu, NoFpu}
-use Rattle.carried.specs.Image.{Placed, carried}
+use Rattle.carried.specs.Image.{Placed}
 use Rattle.carried.specs.Convention.{good, plan}
-use Rattle.carried.specs.Demand.{In}
-use Rattle.carried.proofs.Places.{in-cases}
 use Rattle.carried.proofs.Walks.{Walk, end, one, walk-of}
 use Rattle.o32.specs.declared.Class.the-variants.{Marker, Float}
 use Rattle.o32.specs.declared.Kind.{Kind}
@@ -28,7 +26,7 @@ use Rattle.o32.specs.O32.{floatRegister, register, run, floatRegisters, registe
 use Rattle.placement.specs.Carrying.{endOf, registerBehind, Carries, low, high, single, odd, even, CarriedAt, InRuns}
 use Rattle.placement.proofs.KindFacts.{kind-sound, structure, unpromoted-width, float-width}
 use Rattle.placement.proofs.Steps.{Stepped, Says, says}
-use Rattle.placement.proofs.Laws.{O32-laws, span, span-outside, length-span, length-float}
+use Rattle.placement.proofs.Laws.{O32-laws, span, length-span, length-float}
 use Rattle.placement.proofs.Runs.{span-below, span-high}
 
 -- ---- the state behind some kinds
@@ -301,19 +299,3 @@ structure-in-runs d before k behind L last ok M s N e h = record {
         by-offset d before k _ s (placed-behind d before k behind L last ok M s N e h)
         (unfloated d before k (structure k g .no-float))
         ∙ rw (x, y) (ap (span (offset (kindOf k) (endOf 0 before))) (unpromoted-width (kindOf k) (structure k g .unpromoted)))
-
--- ---- without a floating-point unit
-
-outside : {st last : State} {ks : List ℕ} {L : List Placed} → Walk (O32 NoFpu) (O32-laws NoFpu) st ks L last → (p : ℕ) → In p (carried L) → (p < 16) ⊎ (48 ≤ p)
-outside end p m = absurd m
-outside (one {st = st} {st′ = st′} {k = k} {j = j} {p = place} {L = L} e f w) p m = in-cases (carriers place) (carried L) p m
-    (λ i.
-    let s : Stepped NoFpu st (kindOf k) j place st′ = subst (Says NoFpu st (kindOf k)) e (says NoFpu st (kindOf k)) in
-    let q : carriers place ≡ map carrier (run (offset (kindOf k) (st .end)) (width (kindOf k))) = ap carriers (s .at) ∙ rw (none (is Float (kindOf k))) in
-    span-outside (width (kindOf k)) (offset (kindOf k) (st .end)) p (subst (In p) q i))
-    (λ i. outside w p i)
-
--- Request (ii) of document 02: "no floating register is used and those four image words carry nothing", bytes 16 to 31. (The homes,
--- 32 to 47, carry nothing on any device.)
-pub floats-carry-nothing : (sig : List ℕ) (L : List Placed) (last : State) → plan (O32 NoFpu) false sig ≡ good L last → (p : ℕ) → In p (carried L) → (p < 16) ⊎ (48 ≤ p)
-floats-carry-nothing sig L last ok = outside (walk-of (O32 NoFpu) (O32-laws NoFpu) sig start L last 0 ok)

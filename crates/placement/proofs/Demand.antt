@@ -1,9 +1,10 @@
 -- Demand 3 of what `read` and `write` answer and leave in buffers that are long enough, on every device.
 -- Assumes nothing.
-use mathlib.Core.Path.{_≡_, refl, sym, ap, _∙_, subst}
+use mathlib.Core.Path.{_≡_, refl, sym, ap, ap₂, _∙_, subst}
 use mathlib.Core.Logic.{_↔_, inl, inr}
 use mathlib.Core.List.{List, [], _∷_, _++_, append-assoc}
-use mathlib.Core.Bool.{false}
+use mathlib.Core.Bool.{Bool, true, false}
+use lib.Dec.{ltb}
 use Prim.Native.Nat.{ℕ, zero, suc, _+_, _≤_, _<_}
 use native.Mathlib.Omega.{arith}
 use lib.ListN.{length, getD, take, drop, replicate, length-append}
@@ -11,20 +12,23 @@ use lib.Seq.{take-at, drop-at, getD-append-add}
 use Rattle.words.specs.Words.{Extension, promote, body}
 use Rattle.device.specs.declared.Device.{Device}
 use Rattle.carried.specs.Image as C
-use Rattle.carried.specs.Image.{Placed, gather, carried, reading, listLength}
-use Rattle.carried.specs.Convention.{read}
-use Rattle.carried.specs.Demand.{Sized, AllProper, Carried}
+use Rattle.carried.specs.Image.{Placed, gather, image, carried, reading, listLength}
+use Rattle.carried.specs.Convention.{good, plan, read}
+use Rattle.carried.specs.Demand.{Sized, AllProper, Carried, RoundTrip}
 use Rattle.carried.specs.Demand as D
 use Rattle.carried.proofs.Readings.{reading-length, length-body, fits-carriers, promotion-of}
+use Rattle.o32.specs.declared.State.{State}
 use Rattle.o32.specs.Kinds.{kindOf}
 use Rattle.o32.specs.Offsets.{extension}
 use Rattle.o32.specs.O32.{O32, area}
-use Rattle.answers.specs.Demand.{functionsOf, PastSignature, AcceptedSignature, Lent, Accepts, readingOf}
-use Rattle.answers.proofs.Demand.{Early, Planned, planned-of, accepted-of, reads, rewritings, rewritings-as, accepts-exactly}
+use Rattle.answers.specs.Demand.{functionsOf, output, PastSignature, AcceptedSignature, Lent, Accepts, readingOf}
+use Rattle.answers.proofs.Demand.{Early, Planned, planned-of, accepted-of, reads, is-read, rewritings, rewritings-as, accepts-exactly}
+use Rattle.answers.proofs.Buffers.{output-done}
+use Rattle.answers.specs.Answers.{writeInto}
 use Rattle.placement.specs.Carrying.{Argument, ArgumentByte, CarriedBy, imageBytes, listBytes}
-use Rattle.placement.specs.Refusing.{Improper}
+use Rattle.placement.specs.Refusing.{Accepted, Improper}
 use Rattle.placement.specs.Demand.{recordAt, bodyIn, Buffers, CarriedBytes, Demand}
-use Rattle.placement.proofs.Laws.{O32-laws, O32-carried}
+use Rattle.placement.proofs.Laws.{O32-laws, O32-carried, O32-round-trip}
 use Rattle.placement.proofs.Bounds.{plan-bound, reading-long}
 use Rattle.placement.proofs.Bytes.{Of, of, carried-exactly, one-byte, none-shared, bytes-inside}
 use Rattle.placement.proofs.Nothing.{carries-nothing}
@@ -186,12 +190,36 @@ module _ (d : Device) where
   told : (sig img out : List ℕ) → PastSignature (functionsOf (O32 d) .read sig img out .refusal) → AcceptedSignature (functionsOf (O32 d)) sig
   told sig img out h = accepted-of (O32 d) (O32-laws d) early sig (planned-of (O32 d) (O32-laws d) early sig img out h)
 
+  -- a list that the writer accepts, and its image
+  given : (list out : List ℕ) (L : List Placed) (last : State) → plan (O32 d) true list ≡ good L last → functionsOf (O32 d) .write list out .refusal ≡ 0
+      → output (functionsOf (O32 d) .write list out) ≡ image (32 + area (last .end)) L list
+  given list out L last e h = go (ltb (length out) (length (image (32 + area (last .end)) L list))) refl
+    where
+      go : (t : Bool) → ltb (length out) (length (image (32 + area (last .end)) L list)) ≡ t → output (functionsOf (O32 d) .write list out) ≡ image (32 + area (last .end)) L list
+      go true f = let z : _≡_ {A = ℕ} 7 0 = rw (e, f) at h in absurd (omega arith)
+      go false f = output-done (image (32 + area (last .end)) L list) out (writeInto (O32 d) list (length out)) (rw (e, f) refl) .1
+
+  round-trip : (list ks out : List ℕ) → Accepted d true list ks → functionsOf (O32 d) .write list out .refusal ≡ 0
+      → AcceptedSignature (functionsOf (O32 d)) ks
+      × ((u : Buffers ks) → Accepts (functionsOf (O32 d)) ks u (output (functionsOf (O32 d) .write list out))
+      × (readingOf (functionsOf (O32 d)) ks u (output (functionsOf (O32 d) .write list out)) ≡ list))
+  unfolding lent
+  round-trip list ks out a h =
+      let t : RoundTrip (O32 d) list (a .placed) (a .last) = O32-round-trip d list (a .placed) (a .last) (a .planned) in
+      let s : Planned (O32 d) (O32-laws d) early ks = record { placed = a .placed; last = a .last; planned = ap (plan (O32 d) false) (sym (a .are)) ∙ t .signature } in
+      let r : read (O32 d) ks (output (functionsOf (O32 d) .write list out)) ≡ C.done list =
+      ap₂ (read (O32 d)) (sym (a .are)) (given list out (a .placed) (a .last) (a .planned) h) ∙ t .reads in (
+        accepted-of (O32 d) (O32-laws d) early ks s,
+        λ u. is-read (O32 d) (O32-laws d) early ks s (lent ks s u) (output (functionsOf (O32 d) .write list out)) list r,
+      )
+
   -- the longest list has 32 structures of 32 bytes and a marker, the longest image two structures of 512 bytes; both are accepted,
   -- since an image of no bytes is refused 6
   pub demand : Demand (functionsOf (O32 d)) d
   demand = record {
     carried = λ sig h. carried-bytes sig (planned-of (O32 d) (O32-laws d) early sig [] [] (h [] []));
     told = told;
+    round-trip = round-trip;
     longest-list = (replicate 32 0x5F ++ (0x0A ∷ []), told (replicate 32 0x5F ++ (0x0A ∷ [])) [] [] (inr (inl refl)), refl);
     longest-image = (0xFF ∷ 0xFF ∷ [], told (0xFF ∷ 0xFF ∷ []) [] [] (inr (inl refl)), refl);
   }

@@ -105,10 +105,6 @@ span-at zero o p m = absurd m
 span-at (suc n) o p (inl e) = between-mono o o (suc o) (o + suc n) p (omega arith) (omega arith) (carrier-at o p e)
 span-at (suc n) o p (inr m) = between-mono o (suc o) (suc o + n) (o + suc n) p (omega arith) (omega arith) (span-at n (suc o) p m)
 
--- in $4 to $7, or behind the homes
-pub span-outside : (n o p : ℕ) → In p (span o n) → (p < 16) ⊎ (48 ≤ p)
-span-outside n o p m = elim (span-at n o p m .from) [ inl x ↦ inl (x .1) | inr x ↦ inr (x .1) ]
-
 span-distinct : (n o : ℕ) → Distinct (span o n)
 span-distinct zero o = tt
 span-distinct (suc n) o = ((λ m. carrier-at o (carrier o) refl .before (span-at n (suc o) (carrier o) m .from)), span-distinct n (suc o))

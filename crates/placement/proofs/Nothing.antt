@@ -234,3 +234,11 @@ module _ (d : Device) (sig : List ℕ) where
 -- at every accepted signature, on every device
 pub carries-nothing : (d : Device) (sig : List ℕ) (L : List Placed) (last : State) → plan (O32 d) false sig ≡ good L last → CarriesNothing d sig
 carries-nothing d sig L last ok = nothing d sig (walk-known d (walk-of (O32 d) (O32-laws d) sig start L last 0 ok))
+
+-- Request (ii) of document 02, on the device without a floating-point unit: "no floating register is used and those four image words
+-- carry nothing".
+pub floats-carry-nothing : (sig : List ℕ) (p : ℕ) → 16 ≤ p → p < 32 → CarriedByte NoFpu sig p → ⊥
+floats-carry-nothing sig p h g m = elim (where-is NoFpu sig (m .0) p (m .1)) [
+  | at-offset x z e q ↦ elim (carrier-cases x) [ inl y ↦ omega arith | inr y ↦ omega arith ]
+  | in-float f w r s ↦ omega (arith, w .0)
+]

@@ -3,16 +3,17 @@
 use mathlib.Core.Path.{_≡_}
 use mathlib.Core.Logic.{_↔_}
 use mathlib.Core.List.{List}
+use mathlib.Core.Bool.{true}
 use Prim.Native.Nat.{ℕ, _+_, _≤_, _<_}
 use lib.ListN.{length, getD, take, drop}
 use Rattle.words.specs.Words.{promote}
 use Rattle.device.specs.declared.Device.{Device}
 use Rattle.o32.specs.Kinds.{kindOf}
 use Rattle.o32.specs.Offsets.{extension}
-use Rattle.answers.specs.Demand.{Functions, PastSignature, AcceptedSignature, Lent, Accepts, readingOf, Rewritings}
+use Rattle.answers.specs.Demand.{Functions, output, PastSignature, AcceptedSignature, Lent, Accepts, readingOf, Rewritings}
 use Rattle.placement.specs.Carrying.{Argument, ArgumentByte, CarriedBy, CarriedByte, imageBytes, listBytes}
 use Rattle.placement.specs.Nothing.{CarriesNothing}
-use Rattle.placement.specs.Refusing.{Improper}
+use Rattle.placement.specs.Refusing.{Accepted, Improper}
 
 -- Where the record of an argument stands in a list of the signature, and its body there.
 abbrev pub recordAt : {sig : List ℕ} → Argument sig → ℕ
@@ -54,6 +55,10 @@ pub record Demand (f : Functions) (d : Device) : Type 0 where
   pub carried : (sig : List ℕ) → AcceptedSignature f sig → CarriedBytes f d sig
   -- One answer of the reader tells whether a signature is accepted.
   pub told : (sig img out : List ℕ) → PastSignature (f .read sig img out .refusal) → AcceptedSignature f sig
+  -- And reading what the writer gives for a list, under the list's own kinds, gives the list back.
+  pub round-trip : (list ks out : List ℕ) → Accepted d true list ks → f .write list out .refusal ≡ 0
+      → AcceptedSignature f ks
+      × ((u : Buffers ks) → Accepts f ks u (output (f .write list out)) × (readingOf f ks u (output (f .write list out)) ≡ list))
   -- No buffers shorter than 1,057 and 1,056 bytes are enough for all.
   pub longest-list : (sig : List ℕ) × AcceptedSignature f sig × (listBytes sig ≡ 1057)
   pub longest-image : (sig : List ℕ) × AcceptedSignature f sig × (imageBytes sig ≡ 1056)
