@@ -4,7 +4,7 @@
 use mathlib.Core.List.{List, [], _∷_, _++_, map}
 use mathlib.Core.Bool.{Bool, true, false, _&&_}
 use Prim.Native.Nat.{ℕ, _+_, _-_}
-use lib.Dec.{T, eqb}
+use lib.Dec.{T}
 use lib.ListN.{length, replicate}
 use Rattle.words.specs.Words.{bytesOf, same}
 use Rattle.device.specs.declared.Device.{Device}
