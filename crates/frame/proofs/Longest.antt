@@ -16,7 +16,8 @@ use Rattle.saves.specs.declared.Request.{Request}
 use Rattle.saves.specs.Masks.{below}
 use Rattle.saves.specs.Frame.{refusalOf, generalAt, localsAt, frameOf}
 use Rattle.saves.specs.Words.{collect, savesOf, prologueFor, epilogueFor, prologueWords, epilogueWords, bytesOfWords}
-use Rattle.frame.specs.Code.{codeInto, Longest}
+use Rattle.frame.specs.Code.{codeInto}
+use Rattle.frame.specs.Longest.{Longest}
 use Rattle.frame.proofs.Bytes.{length-saves, small, prologue-none, prologue-length, epilogue-length}
 
 module _ (d : Device) (r : Request) (ws : List ℕ) (room : ℕ) where

@@ -1,5 +1,5 @@
--- The cases that are proved, by computation, of the answers with a lent buffer: the twelve bench cases of document 01 and the case of
--- request (ii) of document 02, the edges, and the argument's numbers of request (iv). Three tables, one test.
+-- The cases that are proved, by computation, of the answers with a lent buffer: the twelve bench cases of document 01 and the
+-- case of request (ii) of document 02, the edges, and the argument's numbers of request (iv). Three tables, one test.
 -- Assumes nothing.
 use mathlib.Core.List.{List, [], _∷_, _++_, map}
 use mathlib.Core.Bool.{Bool, true, false, _&&_}
@@ -153,12 +153,12 @@ edgeTable =
     -- a word that ends beyond 1,024
     ∷ refuses (signature (0xFF ∷ 0xFF ∷ 0x05 ∷ [])) 5 2 3
     ∷ refuses (list (structures1024 ++ n 1)) 5 1026 3
-    -- "At each record the order is 1 to 5": a 33rd argument that is cut off, and a word that is cut off and would end beyond 1,024
+    -- "At each record the order is 1 to 5": a 33rd argument that is cut off, a word that is cut off and would end beyond 1,024
     ∷ refuses (list (words32 ++ cut)) 3 160 33
     ∷ refuses (list (structures1024 ++ cut)) 4 1026 3
     ∷ refuses (list cut) 4 0 1
     ∷ refuses (list marker) 2 0 0
-    -- signature 01 with `$4` = 00000080, with no byte behind the image's 48 and with one; and with `$4` = FFFFFF80, which is read
+    -- signature 01 with `$4` = 00000080, the same with a byte behind the image, and with `$4` = FFFFFF80, which is read
     ∷ refuses (read Fpu (0x01 ∷ []) (wordBytes (0x80 ∷ replicate 11 0))) 8 0 1
     ∷ refuses (read Fpu (0x01 ∷ []) (wordBytes (0x80 ∷ replicate 11 0) ++ (0 ∷ []))) 6 0 0
     ∷ gives (read Fpu (0x01 ∷ []) (wordBytes (0xFFFFFF80 ∷ replicate 11 0))) (0x01 ∷ 0x80 ∷ [])
@@ -173,8 +173,8 @@ edgeTable =
 pub edges : T (all edgeTable)
 edges = tt
 
--- ---- request (iv) of document 02: the argument's number behind other arguments, and behind a marker, which counts for the place and
--- not for the number
+-- ---- request (iv) of document 02: the argument's number behind other arguments, and behind a marker, which counts for the
+-- place and not for the number
 
 abbrev pub numberTable : List Case
 numberTable =

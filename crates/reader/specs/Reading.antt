@@ -19,7 +19,7 @@ abbrev pub verdict : Checked → C.Answer → C.Answer
 verdict K.Proper a = a
 verdict (K.Improper at n) a = C.refused 8 at n
 
--- Refusal 8 in a whole plan, or else this answer; and the plan's reading.
+-- What is to be answered of a whole plan: the refusal of a record, or refusal 8, or else this answer; and the plan's reading.
 abbrev pub checkedIn : Plan State → List ℕ → C.Answer → C.Answer
 checkedIn (bad r at n) img a = C.refused r at n
 checkedIn (good L st) img a = C.checked 0 L img a
