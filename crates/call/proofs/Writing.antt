@@ -1,7 +1,7 @@
 -- What the writer answers and leaves in the lent buffer, where a record is refused, the buffer is short, or all is written.
 -- Assumes nothing.
 use mathlib.Core.Path.{_≡_, refl, sym, ap, _∙_}
-use mathlib.Core.List.{List, _++_}
+use mathlib.Core.List.{List, [], _++_}
 use mathlib.Core.Bool.{Bool, true}
 use Prim.Native.Nat.{ℕ, _+_, _≤_, _<_}
 use native.Mathlib.Omega.{arith}
@@ -9,6 +9,7 @@ use lib.ListN.{length, drop}
 use lib.Dec.{leb}
 use borrow.Author.Tests.{lt-ltb, le-ltb, leb-true}
 use Rattle.device.specs.declared.Device.{Device}
+use Rattle.carried.specs.Image as C
 use Rattle.carried.specs.Image.{image}
 use Rattle.carried.proofs.Readings.{image-length}
 use Rattle.carried.specs.Convention.{Plan, bad, good, plan}
@@ -18,7 +19,7 @@ use Rattle.o32.specs.O32.{O32, area}
 use Rattle.placement.proofs.Laws.{O32-laws}
 use Rattle.measure.specs.declared.Measured.{Measured}
 use Rattle.measure.specs.declared.Measured.the-variants as M
-use Rattle.measure.specs.Measured.{measured}
+use Rattle.measure.specs.Measured.{measured, outcome}
 use Rattle.answers.specs.declared.Answer.{Answer}
 use Rattle.writer.specs.Filling.{Fillable, imageIn}
 use Rattle.answers.specs.Answers.{answerOf, bufferOf, writeInto}
@@ -48,15 +49,11 @@ pub record Right (d : Device) (list out : List ℕ) (r : Answer) (o : List ℕ) 
   pub buffer : o ≡ bufferOf (writeInto (O32 d) list (length out)) out
 
 module _ (d : Device) (list out : List ℕ) where
-  pub write-refused : (m : Measured) (r p j : ℕ) (a : Answer) → m ≡ measured (plan (O32 d) true list) → m ≡ M.Refused r p j → a ≡ record { refusal = r; place = p; argument = j; length = 0 } → Right d list out a out
+  pub write-refused : (m : Measured) (r p j : ℕ) (a : Answer) → m ≡ measured (plan (O32 d) true list) → m ≡ M.Refused r p j → a ≡ answerOf (outcome m (C.done [])) → Right d list out a out
   write-refused m r p j a e g i = go (plan (O32 d) true list) refl (sym g ∙ e)
     where
       go : (q : Plan State) → plan (O32 d) true list ≡ q → M.Refused r p j ≡ measured q → Right d list out a out
-      go (bad r′ p′ j′) f h =
-          let x : r ≡ r′ = cc in
-          let y : p ≡ p′ = cc in
-          let z : j ≡ j′ = cc in
-          record { answer = i ∙ rw (f, x, y, z); buffer = rw f }
+      go (bad r′ p′ j′) f h = record { answer = i ∙ rw (e, f); buffer = rw f }
       go (good L st) f h = let z : _≡_ {A = ℕ} 0 1 = cc in absurd (omega arith)
 
   module _ (n : ℕ) (f : Fillable d list n) where

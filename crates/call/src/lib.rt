@@ -1,17 +1,21 @@
 // The writer and the reader: an argument list becomes a call image in a lent buffer, and an image its list again.
+ghost use mathlib.Core.List.{[]};
 ghost use mathlib.Core.Path.{_≡_};
-ghost use Prim.Native.Nat.{_+_, _≤_, ℕ};
+ghost use Prim.Native.Nat.{_+_, _≤_};
 ghost use lib.ListN.{length};
+ghost use Rattle.carried.specs.Image.{done};
 ghost use Rattle.o32.specs.O32.{O32, area};
 ghost use Rattle.answers.specs.Answers.{answerOf, bufferOf, readInto, writeInto};
+ghost use Rattle.measure.specs.Measured.{outcome};
+ghost use Rattle.reader.specs.Reading.{verdict};
 use answers::Answer;
 use device::Device;
 use measure::Measured;
 use reader::Checked;
 
-// The answer of a list or signature that is refused.
+// The answer of a list or signature that is refused, and 0 in every part where it is accepted.
 fn refused(found: Measured) -> Answer
-    ensures { λ r. ⌜ ((n p k : ℕ) → found ≡ Measured.Refused n p k → r ≡ record { refusal = n; place = p; argument = k; length = 0 }) ⌝ }
+    ensures { λ r. ⌜ r ≡ answerOf (outcome found (done [])) ⌝ }
 {
     match found {
         Measured::Refused {
@@ -51,9 +55,9 @@ pub fn write(device: Device, list: &[u8], out: &mut [u8]) -> Answer
     answers::reply(0, 0, 0, length)
 }
 
-// The answer where a word is no proper promotion.
+// The answer where a word is no proper promotion, and 0 in every part where all are.
 fn improper(found: Checked) -> Answer
-    ensures { λ r. ⌜ ((p k : ℕ) → found ≡ Checked.Improper p k → r ≡ record { refusal = 8; place = p; argument = k; length = 0 }) ⌝ }
+    ensures { λ r. ⌜ r ≡ answerOf (verdict found (done [])) ⌝ }
 {
     match found {
         Checked::Improper { place, argument } => answers::reply(8, place, argument, 0),

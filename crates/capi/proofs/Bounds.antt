@@ -6,10 +6,8 @@ use mathlib.Core.List.{List, [], _∷_}
 use mathlib.Core.Bool.{Bool, true, false, cond}
 use Prim.Native.Nat.{ℕ, suc, _+_, _≤_}
 use native.Mathlib.Omega.{arith}
-use native.Mathlib.Decide.{ℕ-discrete}
 use lib.ListN.{length, length-append}
 use lib.Dec.{eqb, ltb}
-use borrow.Author.Tests.{eqb-true}
 use Rattle.words.specs.Words.{body, proper}
 use Rattle.device.specs.declared.Device.{Device}
 use Rattle.carried.specs.Image as C
@@ -22,12 +20,11 @@ use Rattle.placement.proofs.Bounds.{Numbers, refusal-bound, plan-bound, reading
 use Rattle.answers.specs.declared.Answer.{Answer}
 use Rattle.answers.specs.Answers.{answerOf, bufferOf, within, readWith, writeInto, readInto}
 use Rattle.saves.specs.declared.Request.{Request}
-use Rattle.saves.specs.Frame.{refusalOf, frameOf}
-use Rattle.saves.specs.Words.{prologueWords, epilogueWords, bytesOfWords}
+use Rattle.saves.specs.Words.{prologueWords, epilogueWords}
 use Rattle.frame.specs.Code.{codeInto, prologueInto, epilogueInto}
 use Rattle.capi.specs.declared.O32Answer.{O32Answer}
 use Rattle.capi.specs.Numbers.{narrow}
-use Rattle.frame.proofs.Bytes.{length-saves, small, prologue-none, prologue-length, epilogue-length}
+use Rattle.frame.proofs.Longest.{code-nowhere, longest}
 
 -- of an answer as the code hands it on, and as the definitions give it
 abbrev Fits : Answer → Type 0
@@ -91,29 +88,14 @@ read-fits d sig img room e = fits (readInto (O32 d) sig img room) (read-bounded 
 
 -- ---- the code of a frame
 
-code-bounded : (d : Device) (r : Request) (ws : List ℕ) (room : ℕ) → (refusalOf d r ≡ 0 → length (bytesOfWords ws) ≤ 1057) → Bounded (codeInto d r ws room)
-unfolding codeInto
-code-bounded d r ws room h = go (eqb (refusalOf d r) 0) refl
-  where
-    go : (t : Bool) → eqb (refusalOf d r) 0 ≡ t → Bounded (cond t (within 13 room (C.done (bytesOfWords ws))) (C.refused (refusalOf d r) 0 0))
-    go true e = within-bounded 13 room (C.done (bytesOfWords ws)) (h (eqb-true (refusalOf d r) 0 e))
-    go false e = nowhere
-
-prologue-bound : (d : Device) (r : Request) → refusalOf d r ≡ 0 → length (bytesOfWords (prologueWords r)) ≤ 1057
-prologue-bound d r e = go (ℕ-discrete (frameOf r) 0)
-  where
-    go : Dec (frameOf r ≡ 0) → length (bytesOfWords (prologueWords r)) ≤ 1057
-    go (yes z) = rw (prologue-none r z) (omega arith)
-    go (no n) = omega (arith, prologue-length r n, length-saves r, small d r e .counts .few-pairs, small d r e .counts .few-general)
-
-epilogue-bound : (d : Device) (r : Request) → refusalOf d r ≡ 0 → length (bytesOfWords (epilogueWords r)) ≤ 1057
-epilogue-bound d r e = omega (arith, epilogue-length r, length-saves r, small d r e .counts .few-pairs, small d r e .counts .few-general)
+code-fits : {a : Answer} (d : Device) (r : Request) (ws : List ℕ) (room : ℕ) → answerOf (codeInto d r ws room) .length ≤ 1057 → a ≡ answerOf (codeInto d r ws room) → Fits a
+code-fits d r ws room h e = let z = code-nowhere d r ws room in rw e (omega (arith, z .0), omega (arith, z .1), h)
 
 pub prologue-fits : {a : Answer} (d : Device) (r : Request) (room : ℕ) → a ≡ answerOf (prologueInto d r room) → Fits a
-prologue-fits d r room e = fits (prologueInto d r room) (code-bounded d r (prologueWords r) room (prologue-bound d r)) e
+prologue-fits d r room e = code-fits d r (prologueWords r) room (omega (arith, longest .prologue .bound d r room)) e
 
 pub epilogue-fits : {a : Answer} (d : Device) (r : Request) (room : ℕ) → a ≡ answerOf (epilogueInto d r room) → Fits a
-epilogue-fits d r room e = fits (epilogueInto d r room) (code-bounded d r (epilogueWords r) room (epilogue-bound d r)) e
+epilogue-fits d r room e = code-fits d r (epilogueWords r) room (omega (arith, longest .epilogue .bound d r room)) e
 
 -- ---- what C gets, and what stands in its buffer, where the function was called with what C's numbers say
 

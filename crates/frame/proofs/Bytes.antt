@@ -129,11 +129,11 @@ module _ (r : Request) where
   pub epilogue-length : length (bytesOfWords (epilogueWords r)) ≡ 4 * length (savesOf r) + 8
   epilogue-length = rw (epilogue-bytes, length-append) (omega (arith, length-put 0xC7A00000 0x8FA00000 r))
 
-  pub epilogue-put : (l a b d : List ℕ) (n : ℕ) → a ≡ sets l 0 (bytesOfWords (map loadWord (savesOf r)))
-      → n ≡ 0 + 4 * length (savesOf r) → b ≡ sets a n (bytesOf 4 0x03E00008) → d ≡ sets b (n + 4) (bytesOf 4 (slotFor (frameOf r)))
+  pub epilogue-put : (l a b d : List ℕ) (n slot : ℕ) → a ≡ sets l 0 (bytesOfWords (map loadWord (savesOf r)))
+      → n ≡ 0 + 4 * length (savesOf r) → b ≡ sets a n (bytesOf 4 0x03E00008) → slot ≡ slotFor (frameOf r) → d ≡ sets b (n + 4) (bytesOf 4 slot)
       → d ≡ sets l 0 (bytesOfWords (epilogueWords r))
-  epilogue-put l a b d n p e q s =
-      s ∙ ap (λ (z : List ℕ). sets z (n + 4) (bytesOf 4 (slotFor (frameOf r)))) q
+  epilogue-put l a b d n slot p e q f s =
+      s ∙ ap₂ (λ (z : List ℕ) (w : ℕ). sets z (n + 4) (bytesOf 4 w)) q f
       ∙ two-words a n 0x03E00008 (slotFor (frameOf r))
       ∙ rw (p, epilogue-bytes)
       (sets-append l 0 n (bytesOfWords (map loadWord (savesOf r))) _ (omega (arith, length-put 0xC7A00000 0x8FA00000 r)))

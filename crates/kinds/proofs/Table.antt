@@ -1,7 +1,6 @@
 -- What each arm of the match on a kind byte answers, by the table of kinds.
 -- Assumes nothing.
 use mathlib.Core.Path.{_≡_, refl, sym, ap, _∙_}
-use mathlib.Core.Logic.{_⊎_, inl, inr}
 use mathlib.Core.List.{List, [], _∷_, _++_}
 use mathlib.Core.Bool.{Bool, true, false, _&&_}
 use Prim.Native.Nat.{ℕ, suc, _+_, _-_, _*_, _^_, _≤_, _<_}
@@ -36,9 +35,8 @@ no-row k j h = go (leb j k) (leb k j) refl refl
     go true false d e = refl
     go true true d e = absurd (h (omega (arith, leb-true j k d, leb-true k j e)))
 
-pub unknown : (k : ℕ) (r : Kind) → NoneOf (11 ∷ 10 ∷ 8 ∷ 7 ∷ 6 ∷ 5 ∷ 4 ∷ 3 ∷ 2 ∷ 1 ∷ []) k → (k < 64) ⊎ (256 ≤ k) → r ≡ look k [] → r ≡ kindOf k
-unknown k r n (inr h) e = e ∙ sym (look-past table [] 256 k tt h)
-unknown k r n (inl h) e =
+pub unknown : (k : ℕ) (r : Kind) → NoneOf (11 ∷ 10 ∷ 8 ∷ 7 ∷ 6 ∷ 5 ∷ 4 ∷ 3 ∷ 2 ∷ 1 ∷ []) k → k < 64 → r ≡ look k [] → r ≡ kindOf k
+unknown k r n h e =
     e ∙ sym (rw (
       no-row k 1 (n .0 .0 .0 .0 .0 .0 .0 .0 .0 .1),
       no-row k 2 (n .0 .0 .0 .0 .0 .0 .0 .0 .1),

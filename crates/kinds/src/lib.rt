@@ -20,8 +20,7 @@ fn row(size: usize, alignment: usize, class: Class) -> Kind
 pub fn kind_of(byte: u8) -> Kind
     ensures { λ r. ⌜ r ≡ kindOf byte ⌝ }
 {
-    let k = byte as usize;
-    match k {
+    match byte {
         0x01 => row(1, 4, Class::Signed),
         0x02 => row(1, 4, Class::Unsigned),
         0x03 => row(2, 4, Class::Signed),
@@ -32,9 +31,9 @@ pub fn kind_of(byte: u8) -> Kind
         0x08 => row(8, 8, Class::Float),
         0x0A => row(0, 0, Class::Marker),
         0x0B => row(4, 4, Class::Pointer),
-        0x40..=0x7F => row(k - 0x3F, 4, Class::Plain),
-        0x80..=0xBF => row(64 + 4 * (k - 0x7F), 4, Class::Plain),
-        0xC0..=0xFF => row(8 * (k - 0xBF), 8, Class::Plain),
+        0x40..=0x7F => row(byte as usize - 0x3F, 4, Class::Plain),
+        0x80..=0xBF => row(64 + 4 * (byte as usize - 0x7F), 4, Class::Plain),
+        0xC0..=0xFF => row(8 * (byte as usize - 0xBF), 8, Class::Plain),
         _ => row(0, 0, Class::Unknown),
     }
 }

@@ -23,7 +23,7 @@ use Rattle.records.specs.Records.{recordOf}
 use Rattle.records.proofs.Taken.{grown, step-refused, Took, took}
 use Rattle.measure.specs.declared.Measured.{Measured}
 use Rattle.measure.specs.declared.Measured.the-variants as M
-use Rattle.measure.specs.Measured.{measured}
+use Rattle.measure.specs.Measured.{measured, refusedAt}
 
 -- the answer, where records of n bytes stand before
 abbrev further : ℕ → Measured → Measured
@@ -63,9 +63,9 @@ module _ (bodies : Bool) (list : List ℕ) (st : State) (n at : ℕ) (w : Walkin
   abbrev k : ℕ
   k = getD list at 0
 
-  pub walk-refused : (r j : ℕ) (m : Measured) → t ≡ R.Refused r j → m ≡ M.Refused r at j → (d : Device) → m ≡ measured (plan (O32 d) bodies list)
+  pub walk-refused : (r j : ℕ) (m : Measured) → t ≡ R.Refused r j → m ≡ refusedAt at t → (d : Device) → m ≡ measured (plan (O32 d) bodies list)
   walk-refused r j m g q d =
-      q ∙ sym (w .ahead d ∙ ap (λ (p : Plan State). further n (measured p)) (stopped (O32 d) bodies list at st h r j (step-refused _ r j (sym (e d) ∙ g))))
+      q ∙ ap (refusedAt at) g ∙ sym (w .ahead d ∙ ap (λ (p : Plan State). further n (measured p)) (stopped (O32 d) bodies list at st h r j (step-refused _ r j (sym (e d) ∙ g))))
 
   module _ (j : ℕ) (kd : Kind) (st′ : State) (g : t ≡ R.Taken j kd st′) where
     here : (d : Device) → Took d bodies (length list - (at + 1)) st k kd st′

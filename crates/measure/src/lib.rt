@@ -2,11 +2,10 @@
 // every device.
 ghost use mathlib.Core.Bool.{false, true};
 ghost use mathlib.Core.Path.{_≡_};
-ghost use Prim.Native.Nat.{ℕ};
 ghost use Rattle.device.specs.declared.Device.{Device};
 ghost use Rattle.carried.specs.Convention.{plan};
 ghost use Rattle.o32.specs.O32.{O32};
-ghost use Rattle.measure.specs.Measured.{measured};
+ghost use Rattle.measure.specs.Measured.{measured, refusedAt};
 use records::Record;
 
 // What a list or a signature answers: the first refusal, its place and its argument's number, or the length of the list and its
@@ -25,7 +24,7 @@ pub enum Measured {
 
 // A refused record's answer, as that of the whole.
 fn refusal(answer: Record, place: usize) -> Measured
-    ensures { λ r. ⌜ ((n k : ℕ) → answer ≡ Record.Refused n k → r ≡ Measured.Refused n place k) ⌝ }
+    ensures { λ r. ⌜ r ≡ refusedAt place answer ⌝ }
 {
     match answer {
         Record::Refused(number, argument) => Measured::Refused {

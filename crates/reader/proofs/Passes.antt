@@ -10,9 +10,11 @@ use lib.ListN.{length, getD, set, drop, length-append, length-drop}
 use lib.Seq.{drop-drop}
 use Rattle.words.specs.Words.{body, proper}
 use Rattle.device.specs.declared.Device.{Device}
+use Rattle.carried.specs.Image as C
 use Rattle.carried.specs.Image.{gather, put, Placed, reading}
 use Rattle.carried.specs.Convention.{plan}
 use Rattle.carried.proofs.Readings.{length-body, fits-carriers}
+use Rattle.answers.specs.Answers.{bufferOf}
 use Rattle.o32.specs.declared.Kind.{Kind}
 use Rattle.o32.specs.declared.State.{State}
 use Rattle.o32.specs.declared.Placement.{Placement}
@@ -23,7 +25,7 @@ use Rattle.block.proofs.Stores.{put-next}
 use Rattle.records.proofs.Ahead.{Ahead, ahead-starts, ahead-ends, ahead-sized, Behind, ahead-turn}
 use Rattle.reader.specs.declared.Checked.{Checked}
 use Rattle.reader.specs.declared.Checked.the-variants as K
-use Rattle.reader.specs.Reading.{firstImproper, improperIn, readingIn, delivered, Readable}
+use Rattle.reader.specs.Reading.{verdict, checkedIn, readingIn, Readable}
 
 -- in a signature the next kind stands behind this one
 next-behind : {d : Device} {sig : List ℕ} {m : ℕ} (st : State) (at : ℕ) (w : Ahead d false sig m st at) → at < length sig → (kd : Kind) → kd ≡ kindOf (getD sig at 0)
@@ -32,38 +34,42 @@ next-behind {d = d} {sig = sig} {m = m} st at w h kd e p g st′ o = ahead-turn 
 
 -- ---- refusal 8
 
-pub record Checking (d : Device) (sig img : List ℕ) (found : Checked) (st : State) (at : ℕ) : Type 0 where
+-- from this kind on the image is answered as the whole is to be
+pub record Checking (d : Device) (sig img : List ℕ) (whole : C.Answer → C.Answer) (st : State) (at : ℕ) : Type 0 where
   pub ahead : Ahead d false sig (length img) st at
-  pub same : found ≡ firstImproper at (ahead .placed) img
+  pub same : (a : C.Answer) → whole a ≡ C.checked at (ahead .placed) img a
 
-pub check-starts : (d : Device) (sig img : List ℕ) (st : State) → st ≡ start → Readable d sig img → Checking d sig img (improperIn (plan (O32 d) false sig) img) st 0
-check-starts d sig img st e f = rw (f .planned) (record { ahead = ahead-starts d false sig (length img) (f .placed) (f .last) (f .planned) (f .whole) st e; same = refl })
+pub check-starts : (d : Device) (sig img : List ℕ) (st : State) → st ≡ start → Readable d sig img → Checking d sig img (checkedIn (plan (O32 d) false sig) img) st 0
+check-starts d sig img st e f =
+    rw (f .planned) (record { ahead = ahead-starts d false sig (length img) (f .placed) (f .last) (f .planned) (f .whole) st e; same = λ a. refl })
 
-pub check-ends : (d : Device) (sig img : List ℕ) (found : Checked) (st : State) (at : ℕ) → Checking d sig img found st at → length sig ≤ at → K.Proper ≡ found
-check-ends d sig img found st at w h =
+pub check-ends : (d : Device) (sig img : List ℕ) (whole : C.Answer → C.Answer) (st : State) (at : ℕ) → Checking d sig img whole st at → length sig ≤ at
+    → (a : C.Answer) → verdict K.Proper a ≡ whole a
+check-ends d sig img whole st at w h a =
     let e : w .ahead .placed ≡ [] = ahead-ends d false sig (length img) st at (w .ahead) h in
-    sym (rw e at (w .same))
+    sym (rw e at (w .same a))
 
-module _ (d : Device) (sig img : List ℕ) (found : Checked) (st : State) (at : ℕ) (w : Checking d sig img found st at) (h : at < length sig)
+module _ (d : Device) (sig img : List ℕ) (whole : C.Answer → C.Answer) (st : State) (at : ℕ) (w : Checking d sig img whole st at) (h : at < length sig)
     (kd : Kind) (e : kd ≡ kindOf (getD sig at 0)) (p : Placement) (g : p ≡ placement d st kd)
-    (u : Bool) (a : u ≡ proper (extension (p .kind)) (p .kind .size) (gather img (carriers p))) where
-  -- what is found from here on, by this record's test
-  decided : (t : Bool) → u ≡ t → (L : List Placed) → w .ahead .placed ≡ O32 d .placedAt (getD sig at 0) (argument st kd) p ∷ L → found ≡ cond t (firstImproper (at + 1) L img) (K.Improper at (argument st kd))
-  decided t b L c =
-      w .same
-      ∙ ap (λ (M : List Placed). firstImproper at M img) c
-      ∙ (rw (a, add-one at))
-      ∙ ap (λ (x : Bool). cond x (firstImproper (at + 1) L img) (K.Improper at (argument st kd))) b
+    (u : Bool) (v : u ≡ proper (extension (p .kind)) (p .kind .size) (gather img (carriers p))) where
+  -- what is answered from here on, by this record's test
+  decided : (t : Bool) → u ≡ t → (L : List Placed) → w .ahead .placed ≡ O32 d .placedAt (getD sig at 0) (argument st kd) p ∷ L
+      → (a : C.Answer) → whole a ≡ cond t (C.checked (at + 1) L img a) (C.refused 8 at (argument st kd))
+  decided t b L c a =
+      w .same a
+      ∙ ap (λ (M : List Placed). C.checked at M img a) c
+      ∙ (rw (v, add-one at))
+      ∙ ap (λ (x : Bool). cond x (C.checked (at + 1) L img a) (C.refused 8 at (argument st kd))) b
 
-  pub check-stops : u ≡ false → (j : ℕ) → j ≡ argument st kd → K.Improper at j ≡ found
-  check-stops b j n =
-      let v : Behind d false sig (length img) at (w .ahead .placed) (argument st kd) p (onward st kd) (at + 1) = next-behind st at (w .ahead) h kd e p g (onward st kd) refl in
-      ap (K.Improper at) n ∙ sym (decided false b (v .rest .placed) (v .split))
+  pub check-stops : u ≡ false → (j : ℕ) → j ≡ argument st kd → (a : C.Answer) → verdict (K.Improper at j) a ≡ whole a
+  check-stops b j n a =
+      let z : Behind d false sig (length img) at (w .ahead .placed) (argument st kd) p (onward st kd) (at + 1) = next-behind st at (w .ahead) h kd e p g (onward st kd) refl in
+      ap (C.refused 8 at) n ∙ sym (decided false b (z .rest .placed) (z .split) a)
 
-  pub check-turn : u ≡ true → (st′ : State) → st′ ≡ onward st kd → Checking d sig img found st′ (at + 1)
+  pub check-turn : u ≡ true → (st′ : State) → st′ ≡ onward st kd → Checking d sig img whole st′ (at + 1)
   check-turn b st′ o =
-      let v : Behind d false sig (length img) at (w .ahead .placed) (argument st kd) p st′ (at + 1) = next-behind st at (w .ahead) h kd e p g st′ o in
-      record { ahead = v .rest; same = decided true b (v .rest .placed) (v .split) }
+      let z : Behind d false sig (length img) at (w .ahead .placed) (argument st kd) p st′ (at + 1) = next-behind st at (w .ahead) h kd e p g st′ o in
+      record { ahead = z .rest; same = decided true b (z .rest .placed) (z .split) }
 
 -- ---- the list
 
@@ -144,10 +150,13 @@ module _ (d : Device) (sig img out₀ final : List ℕ) (st : State) (at n : ℕ
             whole = split-here (v .rest .placed) (v .split);
           }
 
--- ---- both: q is what the check found, q′ what it is to find
+-- ---- both: q is what the check found, and so what is answered in place of a list
 
-pub keeps : {q q′ : Checked} {p j : ℕ} (list out : List ℕ) → q ≡ q′ → q ≡ K.Improper p j → (q ≡ q′) × (out ≡ delivered q′ list out)
-keeps list out e f = (e, ap (λ (x : Checked). delivered x list out) (sym f ∙ e))
+pub keeps : {q : Checked} {p j : ℕ} (answer : C.Answer → C.Answer) (list out : List ℕ) → ((a : C.Answer) → verdict q a ≡ answer a) → q ≡ K.Improper p j
+    → ((a : C.Answer) → verdict q a ≡ answer a) × (out ≡ bufferOf (answer (C.done list)) out)
+keeps answer list out e f = (e, ap (λ (x : C.Answer). bufferOf x out) (ap (λ (x : Checked). verdict x (C.done list)) (sym f) ∙ e (C.done list)))
 
-pub delivers : {q q′ : Checked} {o : List ℕ} (list out : List ℕ) → q ≡ q′ → q ≡ K.Proper → o ≡ list → (q ≡ q′) × (o ≡ delivered q′ list out)
-delivers list out e f g = (e, g ∙ ap (λ (x : Checked). delivered x list out) (sym f ∙ e))
+pub delivers : {q : Checked} {o : List ℕ} (answer : C.Answer → C.Answer) (list out : List ℕ) → ((a : C.Answer) → verdict q a ≡ answer a) → q ≡ K.Proper
+    → o ≡ bufferOf (C.done list) out → ((a : C.Answer) → verdict q a ≡ answer a) × (o ≡ bufferOf (answer (C.done list)) out)
+delivers answer list out e f g =
+    (e, g ∙ ap (λ (x : C.Answer). bufferOf x out) (ap (λ (x : Checked). verdict x (C.done list)) (sym f) ∙ e (C.done list)))

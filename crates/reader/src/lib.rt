@@ -1,12 +1,13 @@
 // The passes of the reader: refusal 8, and the list.
-ghost use mathlib.Core.List.{_++_};
+ghost use mathlib.Core.Bool.{false};
 ghost use mathlib.Core.Path.{_≡_};
 ghost use Prim.Native.Nat.{_≤_};
-ghost use lib.ListN.{drop, length};
-ghost use mathlib.Core.Bool.{false};
+ghost use lib.ListN.{length};
 ghost use Rattle.carried.specs.Convention.{plan};
+ghost use Rattle.carried.specs.Image.{Answer, done};
+ghost use Rattle.answers.specs.Answers.{bufferOf};
 ghost use Rattle.o32.specs.O32.{O32};
-ghost use Rattle.reader.specs.Reading.{Readable, delivered, improperIn, readingIn};
+ghost use Rattle.reader.specs.Reading.{Readable, checkedIn, readingIn, verdict};
 use device::Device;
 
 // Whether all words are proper promotions, or the place of the first kind whose word is not, and its argument's number.
@@ -18,7 +19,7 @@ pub enum Checked {
 // Refusal 8: the first kind whose word in the image is no proper promotion.
 fn check(device: Device, signature: &[u8], image: &[u8]) -> Checked
     requires { ⌜ Readable device (now signature) (now image) ⌝ }
-    ensures { λ r. ⌜ r ≡ improperIn (plan (O32 device) false (now (signature .entry))) (now (image .entry)) ⌝ }
+    ensures { λ r. ⌜ ((a : Answer) → verdict r a ≡ checkedIn (plan (O32 device) false (now (signature .entry))) (now (image .entry)) a) ⌝ }
 {
     let mut st = records::start();
     let mut at = 0;
@@ -41,7 +42,7 @@ fn check(device: Device, signature: &[u8], image: &[u8]) -> Checked
 fn copy_list(device: Device, signature: &[u8], image: &[u8], out: &mut [u8])
     requires { ⌜ Readable device (now signature) (now image) ⌝ }
     requires { ⌜ length (readingIn (plan (O32 device) false (now signature)) (now image)) ≤ length (now out) ⌝ }
-    ensures { λ _. ⌜ now (out .exit) ≡ readingIn (plan (O32 device) false (now (signature .entry))) (now (image .entry)) ++ drop (length (readingIn (plan (O32 device) false (now (signature .entry))) (now (image .entry)))) (now (out .entry)) ⌝ }
+    ensures { λ _. ⌜ now (out .exit) ≡ bufferOf (done (readingIn (plan (O32 device) false (now (signature .entry))) (now (image .entry)))) (now (out .entry)) ⌝ }
 {
     let mut st = records::start();
     let mut at = 0;
@@ -62,8 +63,8 @@ fn copy_list(device: Device, signature: &[u8], image: &[u8], out: &mut [u8])
 pub fn deliver(device: Device, signature: &[u8], image: &[u8], out: &mut [u8]) -> Checked
     requires { ⌜ Readable device (now signature) (now image) ⌝ }
     requires { ⌜ length (readingIn (plan (O32 device) false (now signature)) (now image)) ≤ length (now out) ⌝ }
-    ensures { λ r. ⌜ r ≡ improperIn (plan (O32 device) false (now (signature .entry))) (now (image .entry)) ⌝ }
-    ensures { λ _. ⌜ now (out .exit) ≡ delivered (improperIn (plan (O32 device) false (now (signature .entry))) (now (image .entry))) (readingIn (plan (O32 device) false (now (signature .entry))) (now (image .entry)) ++ drop (length (readingIn (plan (O32 device) false (now (signature .entry))) (now (image .entry)))) (now (out .entry))) (now (out .entry)) ⌝ }
+    ensures { λ r. ⌜ ((a : Answer) → verdict r a ≡ checkedIn (plan (O32 device) false (now (signature .entry))) (now (image .entry)) a) ⌝ }
+    ensures { λ _. ⌜ now (out .exit) ≡ bufferOf (checkedIn (plan (O32 device) false (now (signature .entry))) (now (image .entry)) (done (readingIn (plan (O32 device) false (now (signature .entry))) (now (image .entry))))) (now (out .entry)) ⌝ }
 {
     let checked = check(device, signature, image);
     let Checked::Proper = checked else {

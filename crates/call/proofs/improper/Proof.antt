@@ -1,6 +1,10 @@
 -- `improper` meets its contract.
 -- Assumes nothing.
-use mathlib.Core.Path.{_∙_}
+use mathlib.Core.Path.{sym, ap, _∙_}
+use mathlib.Core.List.{[]}
+use Rattle.carried.specs.Image as C
+use Rattle.answers.specs.Answers.{answerOf}
+use Rattle.reader.specs.Reading.{verdict}
 use borrow.Author.Needs.{needs}
 use Rattle.call.proofs.improper.Statement.{statement}
 use Rattle.call.proofs.improper.Tie as tie
@@ -18,10 +22,10 @@ reply-requires-2 : tie.Need-reply-requires-2
 reply-requires-2 c κs = search needs
 
 returns : tie.Need-returns
-returns c = λ p k e. c .reply .ensures ∙ cc (c .before .before .found .given .1)
+returns c = c .reply .ensures ∙ sym (ap (λ x. answerOf (verdict x (C.done []))) (c .before .before .found .given .1))
 
 returns-2 : tie.Need-returns-2
-returns-2 c = λ p k e. cc (c .before .enum-told .given .1)
+returns-2 c = c .reply2 .ensures ∙ sym (ap (λ x. answerOf (verdict x (C.done []))) (c .before .enum-told .given .1))
 
 pub improper-spec : {M : Type 1} → statement M
 improper-spec =

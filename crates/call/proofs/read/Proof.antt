@@ -23,7 +23,7 @@ refused-requires c κs = search needs
 returns : tie.Need-returns
 returns c =
     let s = c .before .before .before .before .before .before .before .args in
-    let r = read-refused (s .device) (s .signature .now) (s .image .now) (s .out .now) (c .before .before .before .measure-signature .result) _ _ _ (c .refused .result) (c .before .before .before .measure-signature .ensures (s .device)) (c .before .enum-told .given .1) (c .refused .ensures _ _ _ (c .before .enum-told .given .1)) in
+    let r = read-refused (s .device) (s .signature .now) (s .image .now) (s .out .now) (c .before .before .before .measure-signature .result) _ _ _ (c .refused .result) (c .before .before .before .measure-signature .ensures (s .device)) (c .before .enum-told .given .1) (c .refused .ensures) in
     (r .answer, r .buffer)
 
 image-length-requires : tie.Need-image-length-requires
@@ -79,7 +79,7 @@ returns-4 : tie.Need-returns-4
 returns-4 c =
     let s = c .before .before .before .before .before .before .before .before .before .before .before .before .before .before .before .before .before .args in
     let v = accepted (c .before .before .before .before .before .before .before .before) in
-    let r = read-improper (s .device) (s .signature .now) (s .image .now) (s .out .now) _ v (c .before .before .before .before .before .before .before .if2 .left) (c .before .before .before .before .before .deliver .result) _ _ (c .improper .result) _ (c .before .before .before .before .before .deliver .ensures .0) (c .before .before .before .before .before .deliver .ensures .1) (c .before .enum-told3 .given .1) (c .improper .ensures _ _ (c .before .enum-told3 .given .1)) in
+    let r = read-improper (s .device) (s .signature .now) (s .image .now) (s .out .now) _ v (c .before .before .before .before .before .before .before .if2 .left) (c .before .before .before .before .before .deliver .result) _ (c .before .before .before .before .before .deliver .ensures .0) (c .before .before .before .before .before .deliver .ensures .1) _ _ (c .improper .result) (c .before .enum-told3 .given .1) (c .improper .ensures) in
     (r .answer, r .buffer)
 
 reply-requires-3 : tie.Need-reply-requires-3

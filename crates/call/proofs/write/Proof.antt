@@ -25,7 +25,7 @@ refused-requires c κs = search needs
 returns : tie.Need-returns
 returns c =
     let s = c .before .before .before .before .before .before .args in
-    let r = write-refused (s .device) (s .list .now) (s .out .now) (c .before .before .before .measure-list .result) _ _ _ (c .refused .result) (c .before .before .before .measure-list .ensures (s .device)) (c .before .enum-told .given .1) (c .refused .ensures _ _ _ (c .before .enum-told .given .1)) in
+    let r = write-refused (s .device) (s .list .now) (s .out .now) (c .before .before .before .measure-list .result) _ _ _ (c .refused .result) (c .before .before .before .measure-list .ensures (s .device)) (c .before .enum-told .given .1) (c .refused .ensures) in
     (r .answer, r .buffer)
 
 image-length-requires : tie.Need-image-length-requires

@@ -1,11 +1,12 @@
 -- `epilogue` meets its contract, by case: refused, too short, done.
 -- Assumes nothing.
-use mathlib.Core.Path.{_≡_, refl, _∙_}
+use mathlib.Core.Path.{_≡_, refl, ap, _∙_}
 use Prim.Native.Nat.{_+_}
 use native.Mathlib.Omega.{arith}
 use lib.ListN.{length}
 use Rattle.saves.specs.declared.Request.{Request}
-use Rattle.saves.specs.Words.{epilogueWords, bytesOfWords}
+use Rattle.saves.specs.Frame.{frameOf}
+use Rattle.saves.specs.Words.{slotFor, epilogueWords, bytesOfWords}
 use Rattle.frame.proofs.Bytes.{epilogue-length, epilogue-put}
 use Rattle.frame.proofs.Answers.{Laid, laid, code-refused, code-short, finished}
 use borrow.Author.Needs.{needs}
@@ -71,9 +72,9 @@ returns-3 c =
     let r : Request = s .request in
     let o = ok (i .before .before) in
     let size : i .before .saves-length .result + 8 ≡ length (bytesOfWords (epilogueWords r)) = omega (arith, epilogue-length r) in
-    let last = rw (c .before .before .before .before .before .before .before .before .before .before .before .before .before .delay-slot .ensures, o .frame) at (c .before .before .before .write-word2 .ensures) in
+    let slot : c .before .before .before .before .before .before .before .before .before .before .before .before .before .delay-slot .result ≡ slotFor (frameOf r) = c .before .before .before .before .before .before .before .before .before .before .before .before .before .delay-slot .ensures ∙ ap slotFor (o .frame) in
     let saves = c .before .before .before .before .before .before .before .before .before .before .before .put-saves .ensures in
-    let put = epilogue-put r _ _ _ _ _ (saves .1) (saves .0) (c .before .before .before .before .before .before .before .write-word .ensures) last in
+    let put = epilogue-put r _ _ _ _ _ _ (saves .1) (saves .0) (c .before .before .before .before .before .before .before .write-word .ensures) slot (c .before .before .before .write-word2 .ensures) in
     let f = finished (s .device) r (epilogueWords r) (s .out .now) (o .accepted) size (omega (arith, i .if2 .left)) put in
     (c .reply3 .ensures ∙ f .0, f .1)
 

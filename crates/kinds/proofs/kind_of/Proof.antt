@@ -1,6 +1,5 @@
 -- `kind_of` meets its contract: each arm of its match answers what the table of kinds says.
 -- Assumes nothing.
-use mathlib.Core.Logic.{inl, inr, ⊎-elim}
 use Prim.Native.Nat.{_+_, _-_, _*_}
 use native.Mathlib.Omega.{arith}
 use lib.ListN.{take, drop}
@@ -40,11 +39,14 @@ row-requires-9 c κs = search needs
 row-requires-10 : tie.Need-row-requires-10
 row-requires-10 c κs = search needs
 
+row-requires-11 : tie.Need-row-requires-11
+row-requires-11 c κs = search needs
+
 sub-row : tie.Need-sub-row
 sub-row c = search needs
 
-row-requires-11 : tie.Need-row-requires-11
-row-requires-11 c κs = search needs
+row-requires-12 : tie.Need-row-requires-12
+row-requires-12 c κs = search needs
 
 sub-row-2 : tie.Need-sub-row-2
 sub-row-2 c = search needs
@@ -55,17 +57,14 @@ mul-row c = record { fits = sizes-fit (c .before .before .before .before .args .
 add-row : tie.Need-add-row
 add-row c = record { fits = sizes-fit (c .before .before .before .before .args .byte) (omega arith) .1 }
 
-row-requires-12 : tie.Need-row-requires-12
-row-requires-12 c κs = search needs
+row-requires-13 : tie.Need-row-requires-13
+row-requires-13 c κs = search needs
 
 sub-row-3 : tie.Need-sub-row-3
 sub-row-3 c = search needs
 
 mul-row-2 : tie.Need-mul-row-2
-mul-row-2 c = record { fits = sizes-fit (c .before .before .before .before .before .args .byte) (omega arith) .2 }
-
-row-requires-13 : tie.Need-row-requires-13
-row-requires-13 c κs = search needs
+mul-row-2 c = record { fits = sizes-fit (c .before .before .before .before .args .byte) (omega arith) .2 }
 
 row-requires-14 : tie.Need-row-requires-14
 row-requires-14 c κs = search needs
@@ -101,16 +100,16 @@ returns-10 : tie.Need-returns-10
 returns-10 c = single (c .before .before .args .byte) 11 (c .row10 .result) (c .before .match .keys10) (c .row10 .ensures)
 
 returns-11 : tie.Need-returns-11
-returns-11 c = ranged (take 10 table) (drop 11 table) 0x40 0x7F (λ k. k - 0x3F) 4 (c .before .before .before .before .args .byte) (c .row11 .result) tt (c .before .before .if1 .left) (c .before .if2 .taken) (c .row11 .ensures)
+returns-11 c = unknown (c .before .before .before .args .byte) (c .row11 .result) (c .before .before .match .rest) (c .before .if1 .taken) (c .row11 .ensures)
 
 returns-12 : tie.Need-returns-12
-returns-12 c = ranged (take 11 table) (drop 12 table) 0x80 0xBF (λ k. 64 + 4 * (k - 0x7F)) 4 (c .before .before .before .before .before .args .byte) (c .row12 .result) tt (c .before .before .if2 .left) (c .before .if3 .taken) (c .row12 .ensures)
+returns-12 c = ranged (take 10 table) (drop 11 table) 0x40 0x7F (λ k. k - 0x3F) 4 (c .before .before .before .before .args .byte) (c .row12 .result) tt (c .before .before .if1 .left) (c .before .if2 .taken) (c .row12 .ensures)
 
 returns-13 : tie.Need-returns-13
-returns-13 c = ranged (take 12 table) (drop 13 table) 0xC0 0xFF (λ k. 8 * (k - 0xBF)) 8 (c .before .before .before .before .before .before .args .byte) (c .row13 .result) tt (c .before .before .if3 .left) (c .before .if4 .taken) (c .row13 .ensures)
+returns-13 c = ranged (take 11 table) (drop 12 table) 0x80 0xBF (λ k. 64 + 4 * (k - 0x7F)) 4 (c .before .before .before .before .before .args .byte) (c .row13 .result) tt (c .before .before .if2 .left) (c .before .if3 .taken) (c .row13 .ensures)
 
 returns-14 : tie.Need-returns-14
-returns-14 c = unknown (c .before .before .before .args .byte) (c .row14 .result) (c .before .before .match .rest) (⊎-elim (λ x. inl (x .taken)) (λ x. inr (x .3 .left)) (c .before .if1 .came)) (c .row14 .ensures)
+returns-14 c = ranged (take 12 table) (drop 13 table) 0xC0 0xFF (λ k. 8 * (k - 0xBF)) 8 (c .before .before .before .before .before .args .byte) (c .row14 .result) tt (c .before .if3 .left) (omega arith) (c .row14 .ensures)
 
 pub kind-of-spec : {M : Type 1} → statement M
 kind-of-spec =
@@ -126,15 +125,15 @@ kind-of-spec =
     row-requires-8
     row-requires-9
     row-requires-10
-    sub-row
     row-requires-11
+    sub-row
+    row-requires-12
     sub-row-2
     mul-row
     add-row
-    row-requires-12
+    row-requires-13
     sub-row-3
     mul-row-2
-    row-requires-13
     row-requires-14
     returns
     returns-2

@@ -42,7 +42,7 @@ refusal-requires : tie.Need-refusal-requires Inv-loop μ-loop
 refusal-requires c κs = search needs
 
 returns : tie.Need-returns Inv-loop μ-loop
-returns c = search (walk-refused, c .refusal .ensures, needs)
+returns c = search (walk-refused, needs)
 
 add-length : tie.Need-add-length Inv-loop μ-loop
 add-length c = omega (arith, walk-counts (c .before .before .before .before .before .before .before .before .before .args .bodies) (c .before .before .before .before .before .before .before .before .before .args .list .now) (c .before .before .before .before .before .before .loop .st) (c .before .before .before .before .before .before .loop .length) (c .before .before .before .before .before .before .loop .at) (c .before .before .before .before .before .before .loop .inv))

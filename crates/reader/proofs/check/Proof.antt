@@ -8,14 +8,14 @@ use borrow.Author.Tests.{not-true, not-false}
 use Rattle.carried.specs.Convention.{plan}
 use Rattle.o32.specs.O32.{O32}
 use Rattle.records.proofs.Ahead.{ahead-ready, ahead-fit, ahead-placed}
-use Rattle.reader.specs.Reading.{improperIn}
+use Rattle.reader.specs.Reading.{checkedIn}
 use Rattle.reader.proofs.Passes.{Checking, check-starts, check-ends, check-stops, check-turn}
 use borrow.Author.Needs.{needs}
 use Rattle.reader.proofs.check.Statement.{statement}
 use Rattle.reader.proofs.check.Tie as tie
 
 abbrev Inv-loop : tie.InvT-loop
-Inv-loop device signature image st₀ at₀ st at = Checking device signature image (improperIn (plan (O32 device) false signature) image) st at
+Inv-loop device signature image st₀ at₀ st at = Checking device signature image (checkedIn (plan (O32 device) false signature) image) st at
 
 abbrev μ-loop : tie.MeasureT-loop
 μ-loop device signature image st₀ at₀ st at = length signature - at
@@ -42,7 +42,10 @@ argument-of-requires : tie.Need-argument-of-requires Inv-loop μ-loop
 argument-of-requires c κs = c .before .before .before .before .before .before .loop .inv .ahead .few
 
 returns : tie.Need-returns Inv-loop μ-loop
-returns c = search (check-stops, not-true, needs)
+returns c = λ a.
+    let s = c .before .before .before .before .before .before .before .before .before .before .before .args in
+    let l = c .before .before .before .before .before .before .before .loop in
+    check-stops (s .device) (s .signature .now) (s .image .now) _ (l .st) (l .at) (l .inv) (c .before .before .before .before .before .before .loop-test .taken) (c .before .before .before .before .kind-of .result) (c .before .before .before .before .kind-of .ensures) (c .before .before .before .placement-of .result) (c .before .before .before .placement-of .ensures) (c .before .before .is-proper .result) (c .before .before .is-proper .ensures) (not-true _ (c .before .if1 .taken)) (c .argument-of .result) (c .argument-of .ensures) a
 
 add-at : tie.Need-add-at Inv-loop μ-loop
 add-at c = omega arith
@@ -57,7 +60,9 @@ loop-again : tie.Need-loop-again Inv-loop μ-loop
 loop-again c = search (check-turn, not-false, needs)
 
 returns-2 : tie.Need-returns-2 Inv-loop μ-loop
-returns-2 c = search (check-ends, needs)
+returns-2 c = λ a.
+    let s = c .before .before .before .before .before .args in
+    check-ends (s .device) (s .signature .now) (s .image .now) _ (c .before .loop .st) (c .before .loop .at) (c .before .loop .inv) (c .loop-test .left) a
 
 pub check-spec : {M : Type 1} → statement M
 check-spec =
