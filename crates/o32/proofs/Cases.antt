@@ -165,9 +165,9 @@ edgeTable =
     -- one byte too little lent: for the image, and for the list, where it would be refused 8
     ∷ case (list []) 47 7 0 0 []
     ∷ case (read Fpu (0x01 ∷ []) (wordBytes (0x80 ∷ replicate 11 0))) 1 7 0 0 []
-    -- 32 words are accepted, and two FF structures, which end at 1,024
+    -- 32 words are accepted, and two FF structures, which end at 1,024: their signature comes to refusal 6
     ∷ image words32 (replicate 4 0x05050505) none (none ++ replicate 28 0x05050505)
-    ∷ image structures1024 (replicate 4 0xFFFFFFFF) none (none ++ replicate 252 0xFFFFFFFF)
+    ∷ refuses (signature (0xFF ∷ 0xFF ∷ [])) 6 0 0
     ∷ []
 
 pub edges : T (all edgeTable)
