@@ -17,7 +17,7 @@ use Rattle.carried.specs.Image.{Placed, gather, reading}
 use Rattle.carried.specs.Convention.{Convention, Plan, bad, good, plan, write, readUnder, read}
 use Rattle.carried.proofs.Readings.{Passed, checked-passes}
 use Rattle.answers.specs.Answers.{within, writeInto, readWith, readInto, answerOf, bufferOf}
-use Rattle.answers.specs.Demand.{PastSignature, output, seen}
+use Rattle.answers.specs.Demand.{PastSignature, output, resultOf}
 
 -- what refusal 8 lets pass is the answer itself
 passes : (L : List Placed) (img : List ℕ) (at : ℕ) (y x : List ℕ) → C.checked at L img (C.done y) ≡ C.done x → y ≡ x
@@ -63,10 +63,13 @@ module _ (c : Convention) where
 
 -- what a call with this outcome has put into its buffer
 abbrev pub outputOf : C.Answer → List ℕ → List ℕ
-outputOf x out = output (seen (answerOf x) (bufferOf x out))
+outputOf x out = output (resultOf (answerOf x) (bufferOf x out))
 
 pub output-done : (x out : List ℕ) (a : C.Answer) → a ≡ C.done x → (answerOf a .refusal ≡ 0) × (outputOf a out ≡ x)
 output-done x out a e = rw e (refl, take-append-seam x (drop (length x) out))
+
+pub answered-length : (x : List ℕ) (a : C.Answer) → a ≡ C.done x → answerOf a .length ≡ length x
+answered-length x a e = ap (λ (y : C.Answer). answerOf y .length) e
 
 -- no refusal is 0
 abbrev pub Numbered : C.Answer → Type 0

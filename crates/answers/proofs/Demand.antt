@@ -11,36 +11,37 @@ use Rattle.carried.specs.Image as C
 use Rattle.carried.specs.Image.{Placed, carried, image, reading, listLength}
 use Rattle.carried.specs.Convention.{Convention, Plan, bad, good, plan, write, read}
 use Rattle.carried.specs.Demand.{In, Carried, Accepted, Rewriting, RoundTrip}
-use Rattle.carried.proofs.Walks.{Laws, Walk, walk-of, plan-reading}
+use Rattle.carried.proofs.Walks.{Laws, Walk, walk-of}
+use Rattle.carried.proofs.Wholeness.{plan-reading}
 use Rattle.carried.proofs.Theorem.{theorem}
 use Rattle.carried.proofs.RoundTrip.{round-trip}
 use Rattle.carried.proofs.Readings.{reading-length}
 use Rattle.answers.specs.Answers.{readWith, readInto, writeInto, answerOf}
-use Rattle.answers.specs.Demand.{Functions, functionsOf, output, PastSignature, AcceptedSignature, Lent, Accepts, readingOf, rewritingOf, Rewritings}
-use Rattle.answers.proofs.Buffers.{written-is, read-is, output-done, accepted-done, past-signature, read-numbered}
+use Rattle.answers.specs.Demand.{Functions, functionsOf, output, PastSignature, AcceptedSignature, LentBuffers, Accepts, readingOf, rewritingOf, AcceptedImages}
+use Rattle.answers.proofs.Buffers.{written-is, read-is, answered-length, output-done, accepted-done, past-signature, read-numbered}
 
 done-inj : {x y : List ℕ} → C.done x ≡ C.done y → x ≡ y
 done-inj e = cc
 
 -- the same in other words: of buffers as long, and of the same carried bytes
-pub rewritings-as : {f : Functions} {sig : List ℕ} {m n m′ n′ : ℕ} {P Q : ℕ → Type 0} → m ≡ m′ → n ≡ n′ → ((p : ℕ) → Q p ↔ P p)
-    → Rewritings f sig m n P → Rewritings f sig m′ n′ Q
-rewritings-as {f} {sig} {m} {n} {m′} {n′} {P} {Q} e g same w = record {
-  some = λ u. w .some (lent u);
-  alike = λ u v. w .alike (lent u) (lent v);
+pub images-as : {f : Functions} {sig : List ℕ} {m n m′ n′ : ℕ} {P Q : ℕ → Type 0} → m ≡ m′ → n ≡ n′ → ((p : ℕ) → Q p ↔ P p)
+    → AcceptedImages f sig m n P → AcceptedImages f sig m′ n′ Q
+images-as {f} {sig} {m} {n} {m′} {n′} {P} {Q} e g same w = record {
+  some-accepted = λ u. w .some-accepted (lent u);
+  same-in-all-buffers = λ u v. w .same-in-all-buffers (lent u) (lent v);
   read-same = λ u v a b h k.
       ((λ x p q. w .read-same (lent u) (lent v) a b h k .0 x p (same p .0 q)), λ x. w .read-same (lent u) (lent v) a b h k .1 (λ p q. x p (same p .1 q)));
   rewrites = λ u. w .rewrites (lent u);
-  whole = λ u a h. w .whole (lent u) a h ∙ g;
-  keeps = λ u a h p q. w .keeps (lent u) a h p (same p .0 q);
-  clears = λ u a h p q. w .clears (lent u) a h p (λ x. q (same p .1 x));
+  rewriting-length = λ u a h. (w .rewriting-length (lent u) a h .0 ∙ g, w .rewriting-length (lent u) a h .1 ∙ g);
+  keeps-carried = λ u a h p q. w .keeps-carried (lent u) a h p (same p .0 q);
+  zero-elsewhere = λ u a h p q. w .zero-elsewhere (lent u) a h p (λ x. q (same p .1 x));
   accepted-again = λ u v. w .accepted-again (lent u) (lent v);
-  reads-again = λ u v. w .reads-again (lent u) (lent v);
-  fixed = λ u v. w .fixed (lent u) (lent v);
+  reads-the-same = λ u v. w .reads-the-same (lent u) (lent v);
+  fixed-point = λ u v. w .fixed-point (lent u) (lent v);
   same-rewriting = λ u v. w .same-rewriting (lent u) (lent v);
 }
   where
-    lent : Lent m′ n′ → Lent m n
+    lent : LentBuffers m′ n′ → LentBuffers m n
     lent u = record { list = u .list; image = u .image; list-long = omega (arith, u .list-long); image-long = omega (arith, u .image-long) }
 
 -- the refusals of a signature are none of those that come after
@@ -90,59 +91,72 @@ module _ (c : Convention) (laws : Laws c) (early : Early c) (sig : List ℕ) whe
     read-long a x e = ap length (done-inj (sym e ∙ the .accepts a (the .accepted a x e))) ∙ reading-length L a (the .one-each .sized)
 
     -- an image that is accepted is one that the theorem's reader reads, and as what the buffer then has
-    pub reads : (u : Lent m n) (a : List ℕ) → Accepts (functionsOf c) sig u a → read c sig a ≡ C.done (readingOf (functionsOf c) sig u a)
+    pub reads : (u : LentBuffers m n) (a : List ℕ) → Accepts (functionsOf c) sig u a → read c sig a ≡ C.done (readingOf (functionsOf c) sig u a)
     reads u a h =
         read-is c sig a (readingOf (functionsOf c) sig u a) (length (u .list)) .0
         (accepted-done (u .list) (readInto c sig a (length (u .list))) (read-numbered c a (length (u .list)) (plan c false sig) numbered) h) .0
 
-    pub is-read : (u : Lent m n) (a x : List ℕ) → read c sig a ≡ C.done x → Accepts (functionsOf c) sig u a × (readingOf (functionsOf c) sig u a ≡ x)
+    pub is-read : (u : LentBuffers m n) (a x : List ℕ) → read c sig a ≡ C.done x → Accepts (functionsOf c) sig u a × (readingOf (functionsOf c) sig u a ≡ x)
     is-read u a x e =
         output-done x (u .list) (readInto c sig a (length (u .list))) (read-is c sig a x (length (u .list)) .1 (e, omega (arith, read-long a x e, u .list-long)))
 
-    again : (u : Lent m n) (a : List ℕ) → Accepts (functionsOf c) sig u a → Rewriting c sig L n a (readingOf (functionsOf c) sig u a)
+    again : (u : LentBuffers m n) (a : List ℕ) → Accepts (functionsOf c) sig u a → Rewriting c sig L n a (readingOf (functionsOf c) sig u a)
     again u a h = the .rewrites a (readingOf (functionsOf c) sig u a) (reads u a h)
 
-    is-written : (u : Lent m n) (list r : List ℕ) → write c list ≡ C.done r → length r ≡ n
+    is-written : (u : LentBuffers m n) (list r : List ℕ) → write c list ≡ C.done r → length r ≡ n
         → (functionsOf c .write list (u .image) .refusal ≡ 0) × (output (functionsOf c .write list (u .image)) ≡ r)
     is-written u list r e l =
         output-done r (u .image) (writeInto c list (length (u .image))) (written-is c list r (length (u .image)) .1 (e, omega (arith, l, u .image-long)))
 
     -- the rewriting is that of the theorem
-    rewritten : (u : Lent m n) (a : List ℕ) (h : Accepts (functionsOf c) sig u a)
+    rewritten : (u : LentBuffers m n) (a : List ℕ) (h : Accepts (functionsOf c) sig u a)
         → (functionsOf c .write (readingOf (functionsOf c) sig u a) (u .image) .refusal ≡ 0) × (rewritingOf (functionsOf c) sig u a ≡ again u a h .rewriting)
     rewritten u a h = is-written u (readingOf (functionsOf c) sig u a) (again u a h .rewriting) (again u a h .written) (again u a h .whole)
 
-    written-as : (u : Lent m n) (a : List ℕ) (h : Accepts (functionsOf c) sig u a) → write c (readingOf (functionsOf c) sig u a) ≡ C.done (rewritingOf (functionsOf c) sig u a)
+    written-as : (u : LentBuffers m n) (a : List ℕ) (h : Accepts (functionsOf c) sig u a) → write c (readingOf (functionsOf c) sig u a) ≡ C.done (rewritingOf (functionsOf c) sig u a)
     written-as u a h = again u a h .written ∙ ap C.done (sym (rewritten u a h .1))
 
-    long : (u : Lent m n) (a : List ℕ) (h : Accepts (functionsOf c) sig u a) → length (rewritingOf (functionsOf c) sig u a) ≡ n
+    long : (u : LentBuffers m n) (a : List ℕ) (h : Accepts (functionsOf c) sig u a) → length (rewritingOf (functionsOf c) sig u a) ≡ n
     long u a h = ap length (rewritten u a h .1) ∙ again u a h .whole
 
-    read-again : (u v : Lent m n) (a : List ℕ) (h : Accepts (functionsOf c) sig u a)
+    rewritten-length : (u : LentBuffers m n) (a : List ℕ) (h : Accepts (functionsOf c) sig u a) → functionsOf c .write (readingOf (functionsOf c) sig u a) (u .image) .length ≡ n
+    rewritten-length u a h =
+        let r = again u a h in
+        answered-length (r .rewriting) (writeInto c (readingOf (functionsOf c) sig u a) (length (u .image)))
+        (written-is c (readingOf (functionsOf c) sig u a) (r .rewriting) (length (u .image)) .1 (r .written, omega (arith, r .whole, u .image-long))) ∙ r .whole
+
+    -- and the length that the reader answers is that of the reading
+    pub reading-answered : (u : LentBuffers m n) (a : List ℕ) → Accepts (functionsOf c) sig u a → functionsOf c .read sig a (u .list) .length ≡ m
+    reading-answered u a h =
+        let x : List ℕ = readingOf (functionsOf c) sig u a in
+        let e : read c sig a ≡ C.done x = reads u a h in
+        answered-length x (readInto c sig a (length (u .list))) (read-is c sig a x (length (u .list)) .1 (e, omega (arith, read-long a x e, u .list-long))) ∙ read-long a x e
+
+    read-again : (u v : LentBuffers m n) (a : List ℕ) (h : Accepts (functionsOf c) sig u a)
         → Accepts (functionsOf c) sig v (rewritingOf (functionsOf c) sig u a) × (readingOf (functionsOf c) sig v (rewritingOf (functionsOf c) sig u a) ≡ readingOf (functionsOf c) sig u a)
     read-again u v a h =
         is-read v (rewritingOf (functionsOf c) sig u a) (readingOf (functionsOf c) sig u a) (ap (read c sig) (rewritten u a h .1) ∙ again u a h .reads)
 
     -- what the writer gives for the reading of no image at all
-    something : (u : Lent m n) → (a : List ℕ) × Accepts (functionsOf c) sig u a
+    something : (u : LentBuffers m n) → (a : List ℕ) × Accepts (functionsOf c) sig u a
     something u =
         let list : List ℕ = reading L [] in
         let a : List ℕ = image n L list in
         let w : RoundTrip c list L (s .last) = round-trip c laws list L (s .last) (plan-reading c laws the-walk [] 0) in
         (a, is-read u a (reading L a) (the .accepts a (w .accepted)) .0)
 
-    pub rewritings : Rewritings (functionsOf c) sig m n (λ p. In p (carried L))
-    rewritings = record {
-      some = something;
-      alike = λ u v a h. let w = is-read v a (readingOf (functionsOf c) sig u a) (reads u a h) in (w .0, sym (w .1));
+    pub accepted-images : AcceptedImages (functionsOf c) sig m n (λ p. In p (carried L))
+    accepted-images = record {
+      some-accepted = something;
+      same-in-all-buffers = λ u v a h. let w = is-read v a (readingOf (functionsOf c) sig u a) (reads u a h) in (w .0, sym (w .1));
       read-same = λ u v a b h k. the .read-same a b (readingOf (functionsOf c) sig u a) (readingOf (functionsOf c) sig v b) (reads u a h) (reads v b k);
       rewrites = λ u a h. rewritten u a h .0;
-      whole = long;
-      keeps = λ u a h. rw (rewritten u a h .1) (again u a h .keeps);
-      clears = λ u a h. rw (rewritten u a h .1) (again u a h .clears);
+      rewriting-length = λ u a h. (rewritten-length u a h, long u a h);
+      keeps-carried = λ u a h. rw (rewritten u a h .1) (again u a h .keeps);
+      zero-elsewhere = λ u a h. rw (rewritten u a h .1) (again u a h .clears);
       accepted-again = λ u v a h. read-again u v a h .0;
-      reads-again = λ u v a h. read-again u v a h .1;
-      fixed = λ u v a h.
+      reads-the-same = λ u v a h. read-again u v a h .1;
+      fixed-point = λ u v a h.
           is-written v (readingOf (functionsOf c) sig v (rewritingOf (functionsOf c) sig u a)) (rewritingOf (functionsOf c) sig u a)
           (ap (write c) (read-again u v a h .1) ∙ written-as u a h) (long u a h) .1;
       same-rewriting = λ u v a b h k.
@@ -151,5 +165,5 @@ module _ (c : Convention) (laws : Laws c) (early : Early c) (sig : List ℕ) whe
     }
 
     -- an accepted image has the signature's length and no improper promotion, and every such image is accepted
-    pub accepts-exactly : (u : Lent m n) (a : List ℕ) → Accepts (functionsOf c) sig u a ↔ Accepted n L a
+    pub accepts-exactly : (u : LentBuffers m n) (a : List ℕ) → Accepts (functionsOf c) sig u a ↔ Accepted n L a
     accepts-exactly u a = ((λ h. the .accepted a (readingOf (functionsOf c) sig u a) (reads u a h)), λ h. is-read u a (reading L a) (the .accepts a h) .0)

@@ -8,7 +8,7 @@ use Rattle.device.specs.declared.Device.{Device}
 use Rattle.device.specs.declared.Device.the-variants.{Fpu, NoFpu}
 use Rattle.answers.specs.declared.Answer.{Answer}
 use Rattle.answers.specs.Answers.{answerOf, bufferOf, readInto, writeInto}
-use Rattle.answers.specs.Demand.{Seen, Functions}
+use Rattle.answers.specs.Demand.{Result, Functions}
 use Rattle.o32.specs.O32.{O32}
 use Rattle.saves.specs.declared.Request.{Request}
 use Rattle.saves.specs.declared.Layout.{Layout}
@@ -31,9 +31,9 @@ layoutNumbers y = record {
   locals = y .locals;
 }
 
--- What a caller in C sees of a call: the refusal and the length in its answer, and its buffer afterwards.
-abbrev pub seenFromC : O32Answer → List ℕ → Seen
-seenFromC a out = record { refusal = a .refusal; length = a .length; buffer = out }
+-- What a caller in C gets from a call: the numbers of its answer, and its buffer afterwards.
+abbrev pub resultForC : O32Answer → List ℕ → Result
+resultForC a out = record { refusal = a .refusal; place = a .place; argument = a .argument; length = a .length; buffer = out }
 
 -- A device. 0 is the one with a floating-point unit, any other number the one without.
 abbrev pub deviceOf : ℕ → Device
@@ -53,6 +53,6 @@ requestOf leaf locals outgoing general pairs = record {
 abbrev pub functionsForC : ℕ → Functions
 functionsForC device = record {
   read = λ sig img out.
-      seenFromC (narrow (answerOf (readInto (O32 (deviceOf device)) sig img (length out)))) (bufferOf (readInto (O32 (deviceOf device)) sig img (length out)) out);
-  write = λ list out. seenFromC (narrow (answerOf (writeInto (O32 (deviceOf device)) list (length out)))) (bufferOf (writeInto (O32 (deviceOf device)) list (length out)) out);
+      resultForC (narrow (answerOf (readInto (O32 (deviceOf device)) sig img (length out)))) (bufferOf (readInto (O32 (deviceOf device)) sig img (length out)) out);
+  write = λ list out. resultForC (narrow (answerOf (writeInto (O32 (deviceOf device)) list (length out)))) (bufferOf (writeInto (O32 (deviceOf device)) list (length out)) out);
 }

@@ -2,6 +2,7 @@ pub mod Places
 pub mod Readings
 pub mod Plans
 pub mod Walks
+pub mod Wholeness
 pub mod Theorem
 pub mod Records
 pub mod RoundTrip

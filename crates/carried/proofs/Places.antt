@@ -1,12 +1,15 @@
 -- Laws of lists of image bytes: what is stored at them is read back, and bytes that are not among them stay.
 -- Assumes nothing.
 use mathlib.Core.Path.{_≡_, refl, ap, ap₂, _∙_}
-use mathlib.Core.Logic.{inl, inr}
+use mathlib.Core.Logic.{_⊎_, inl, inr}
+use mathlib.Core.Bool.{Bool, true, false}
 use mathlib.Core.List.{List, [], _∷_, _++_}
 use Prim.Native.Nat.{ℕ, suc, _<_}
 use native.Mathlib.Omega.{arith}
 use lib.ListN.{length, getD, set, drop, length-set}
 use lib.Seq.{getD-set-same, getD-set-other, set-append-left}
+use lib.Dec.{eqb}
+use borrow.Author.Tests.{eqb-true, eqb-false}
 use Rattle.carried.specs.Image.{gather, put}
 use Rattle.carried.specs.Demand.{In, Distinct}
 
@@ -76,6 +79,15 @@ pub in-cases : {A : Type 0} (ps qs : List ℕ) (p : ℕ) → In p (ps ++ qs) →
 in-cases [] qs p m f g = g m
 in-cases (q ∷ ps) qs p (inl e) f g = f (inl e)
 in-cases (q ∷ ps) qs p (inr m) f g = in-cases ps qs p m (λ m′. f (inr m′)) g
+
+pub in-or-not : (p : ℕ) (ps : List ℕ) → In p ps ⊎ (In p ps → ⊥)
+in-or-not p [] = inr (λ m. m)
+in-or-not p (q ∷ ps) = go (eqb p q) refl (in-or-not p ps)
+  where
+    go : (t : Bool) → eqb p q ≡ t → In p ps ⊎ (In p ps → ⊥) → In p (q ∷ ps) ⊎ (In p (q ∷ ps) → ⊥)
+    go true e rest = inl (inl (eqb-true p q e))
+    go false e (inl m) = inl (inr m)
+    go false e (inr n) = inr (λ m. elim m [ inl x ↦ eqb-false p q e x | inr x ↦ n x ])
 
 pub distinct-append : (ps qs : List ℕ) → Distinct ps → Distinct qs → ((p : ℕ) → In p ps → In p qs → ⊥) → Distinct (ps ++ qs)
 distinct-append [] qs d e h = e

@@ -12,7 +12,8 @@ use Rattle.carried.specs.Convention.{Convention, good, plan, write, read
 use Rattle.carried.specs.Demand.{OneEach, Carried, Accepted}
 use Rattle.carried.proofs.Readings as R
 use Rattle.carried.proofs.Readings.{Passed, checked-accepts, checked-passes}
-use Rattle.carried.proofs.Walks.{Laws, Walk, walk-of, walk-kinds, walk-one-each, plan-reading}
+use Rattle.carried.proofs.Walks.{Laws, Walk, walk-of, walk-kinds, walk-one-each}
+use Rattle.carried.proofs.Wholeness.{plan-reading}
 
 done-inj : {a b : List ℕ} → done a ≡ done b → a ≡ b
 done-inj e = cc

@@ -3,18 +3,15 @@
 use mathlib.Core.Path.{_≡_, refl, sym, ap, ap₂, subst}
 use mathlib.Core.List.{List, [], _∷_, _++_}
 use mathlib.Core.Bool.{Bool, true, false}
-use Prim.Native.Nat.{ℕ, zero, suc, _≤_, _<_}
+use Prim.Native.Nat.{ℕ, suc, _≤_, _<_}
 use native.Mathlib.Omega.{arith}
-use lib.ListN.{length, length-append}
-use lib.Dec.{ltb}
-use borrow.Author.Tests.{le-ltb}
-use Rattle.words.specs.Words.{promote, body}
-use Rattle.carried.specs.Image.{Placed, carried, reading}
-use Rattle.carried.specs.Convention.{Step, refuse, next, Convention, Plan, bad, good, also, behind, taken, after, from, plan}
+use lib.ListN.{length}
+use Rattle.words.specs.Words.{promote}
+use Rattle.carried.specs.Image.{Placed, carried}
+use Rattle.carried.specs.Convention.{Step, refuse, next, Convention, Plan, bad, good, also, behind, from, plan}
 use Rattle.carried.specs.Demand.{In, Distinct, Sized, kinds, OneEach}
 use Rattle.carried.proofs.Places.{in-cases, distinct-append}
 use Rattle.carried.proofs.Plans.{by-records}
-use Rattle.carried.proofs.Readings.{bytesIn, length-body, fits-carriers}
 
 -- Free st p: image byte p may still be given to an argument behind this state. What one step must give: the
 -- bytes of its record were free, are used behind it, are distinct, are one for each byte of the argument, and lie in the image.
@@ -91,7 +88,7 @@ module _ (c : Convention) (laws : Laws c) where
       let w : Walked bodies 0 l (c .start) L last = walked bodies l 0 0 (c .start) L last e in
       subst (λ (ks : List ℕ). Walk (c .start) ks L last) (sym (walk-kinds (w .walk))) (w .walk)
 
-  walk-sized : {st last : c .State} {ks : List ℕ} {L : List Placed} → Walk st ks L last → Sized L
+  pub walk-sized : {st last : c .State} {ks : List ℕ} {L : List Placed} → Walk st ks L last → Sized L
   walk-sized end = tt
   walk-sized (one e f w) = (laws-at e .sized, walk-sized w)
 
@@ -121,24 +118,37 @@ module _ (c : Convention) (laws : Laws c) where
   pub walk-one-each : {st last : c .State} {ks : List ℕ} {L : List Placed} → Walk st ks L last → OneEach (c .imageLength last) L
   walk-one-each w = record { sized = walk-sized w; distinct = walk-distinct w; inside = λ p m. walk-inside w p m }
 
-  -- the bytes of a body are passed over
-  pass : (b l : List ℕ) (n at : ℕ) (st : c .State) (q : Plan (c .State)) → length b ≡ n → ((at′ : ℕ) → from c true at′ st 0 l ≡ q) → from c true at st n (b ++ l) ≡ q
-  pass [] l zero at st q e h = h at
-  pass [] l (suc n) at st q e h = absurd (omega arith)
-  pass (x ∷ b) l zero at st q e h = absurd (omega arith)
-  pass (x ∷ b) l (suc n) at st q e h = pass b l n (suc at) st q (omega arith) h
+  -- a walk, taken apart at one of its kinds
+  pub record WalkTo (st : c .State) (xs : List ℕ) (k : ℕ) : Type 0 where
+    pub placed : List Placed
+    pub reached : c .State
+    pub number : ℕ
+    pub place : c .Placement
+    pub onward : c .State
+    pub before : Walk st xs placed reached
+    pub stepped : c .step reached k ≡ next number place onward
+    pub fitting : c .fits onward ≡ true
 
-  -- the records of a reading are placed as those of its signature are
-  pub plan-reading : {st last : c .State} {ks : List ℕ} {L : List Placed} → Walk st ks L last → (img : List ℕ) (at : ℕ)
-      → from c true at st 0 (reading L img) ≡ good L last
-  plan-reading end img at = refl
-  plan-reading (one {st = st} {st′ = st′} {last = last} {k = k} {j = j} {p = p} {L = L} e f w) img at =
-      let s : Placed = c .placedAt k j p in
-      let b : List ℕ = body (s .size) (bytesIn s img) in
-      let lb : length b ≡ s .size = length-body s img (fits-carriers s (laws-at e .sized)) in
-      let uncut : ltb (length (b ++ reading L img)) (s .size) ≡ false =
-      le-ltb (length (b ++ reading L img)) (s .size) (rw length-append (omega arith)) in
-      subst
-      (λ (x : ℕ). after c at x (taken c true (length (b ++ reading L img)) st x) (λ size st″. from c true (suc at) st″ (behind true size) (b ++ reading L img)) ≡ good (s ∷ L) last)
-      (sym (laws-at e .kind))
-      (rw (e, uncut, f, pass b (reading L img) (s .size) (suc at) st′ (good L last) lb (λ at′. plan-reading w img at′)) refl)
+  pub walk-to : (xs : List ℕ) (k : ℕ) (ys : List ℕ) {st last : c .State} {L : List Placed} → Walk st (xs ++ (k ∷ ys)) L last → WalkTo st xs k
+  walk-to [] k ys (one {st = st} {st′ = st′} {j = j} {p = p} e f w) = record {
+    placed = [];
+    reached = st;
+    number = j;
+    place = p;
+    onward = st′;
+    before = end;
+    stepped = e;
+    fitting = f;
+  }
+  walk-to (x ∷ xs) k ys (one {j = j} {p = p} e f w) =
+      let r : WalkTo _ xs k = walk-to xs k ys w in
+      record {
+        placed = c .placedAt x j p ∷ r .placed;
+        reached = r .reached;
+        number = r .number;
+        place = r .place;
+        onward = r .onward;
+        before = one e f (r .before);
+        stepped = r .stepped;
+        fitting = r .fitting;
+      }

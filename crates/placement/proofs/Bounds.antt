@@ -12,7 +12,8 @@ use borrow.Author.Tests.{leb-true, leb-false}
 use Rattle.device.specs.declared.Device.{Device}
 use Rattle.carried.specs.Image.{Placed, reading}
 use Rattle.carried.specs.Convention.{Step, refuse, next, Plan, bad, good, also, behind, taken, from, plan}
-use Rattle.carried.proofs.Walks.{walk-of, plan-reading}
+use Rattle.carried.proofs.Walks.{walk-of}
+use Rattle.carried.proofs.Wholeness.{plan-reading}
 use Rattle.carried.proofs.Plans.{by-step, by-limits, stops, Stops, by-records}
 use Rattle.o32.specs.declared.Class.the-variants.{Unknown, Marker, Signed, Unsigned}
 use Rattle.o32.specs.declared.Kind.{Kind}

@@ -16,7 +16,7 @@ use Rattle.o32.specs.declared.State.{State}
 use Rattle.o32.specs.Kinds.{kindOf}
 use Rattle.o32.specs.Offsets.{width, offset}
 use Rattle.o32.specs.O32.{O32, area, argument, start}
-use Rattle.placement.specs.Carrying.{endOf, registerBehind, CarriedAt, Argument, ArgumentByte, CarriedBy, CarriedByte}
+use Rattle.placement.specs.Carrying.{endOf, registerBehind, CarriedAt, KindIn, ArgumentByte, CarriedBy, CarriedByte}
 use Rattle.placement.proofs.Laws.{O32-carried}
 use Rattle.placement.proofs.Carrying.{reach, placed-behind, carried-at}
 
@@ -25,18 +25,18 @@ module _ (d : Device) (sig : List ℕ) (L : List Placed) (last : State) (ok : pl
   the = O32-carried d sig L last ok
 
   -- the record of an argument, placed by the kinds before it
-  abbrev pub recordOf : Argument sig → Placed
+  abbrev pub recordOf : KindIn sig → Placed
   recordOf a = O32 d .placedAt (a .kind) (argument (reach start (a .before)) (kindOf (a .kind)))
       (record { kind = kindOf (a .kind); offset = offset (kindOf (a .kind)) (endOf 0 (a .before)); register = registerBehind d (a .before) (a .kind) })
 
-  pub record Of (a : Argument sig) : Type 0 where
+  pub record Of (a : KindIn sig) : Type 0 where
     pub among : Among L
     pub kinds-before : kinds (among .before) ≡ a .before
     pub long : length (among .before) ≡ length (a .before)
     pub placed-so : among .here ≡ recordOf a
     pub carried-so : CarriedAt d (a .before) (a .kind) (among .here)
 
-  pub of : (a : Argument sig) → Of a
+  pub of : (a : KindIn sig) → Of a
   of a =
       let w : OfKind L (a .before) (a .kind) (a .behind) = of-kind L (a .before) (a .kind) (a .behind) (the .signature ∙ sym (a .here)) in
       let n : length (w .among .before) ≡ length (a .before) = sym (length-kinds (w .among .before)) ∙ ap length (w .kinds-before) in
@@ -50,7 +50,7 @@ module _ (d : Device) (sig : List ℕ) (L : List Placed) (last : State) (ok : pl
       }
 
   -- the argument of a record
-  abbrev pub argument-of : Among L → Argument sig
+  abbrev pub argument-of : Among L → KindIn sig
   argument-of w = record {
     before = kinds (w .before);
     kind = w .here .kind;

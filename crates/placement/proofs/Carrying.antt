@@ -238,31 +238,31 @@ module _ (d : Device) (before : List ℕ) (k j : ℕ) (s : Placed)
         laid : registerBehind d before k ≡ 0 → (t : Bool) → ltb (offset (kindOf k) (endOf 0 before) + i) 16 ≡ t → Carries d before k i (getD cs i 0)
         laid z true e =
             let h = ltb-true (offset (kindOf k) (endOf 0 before) + i) 16 e in
-            low _ z refl h (at-byte z _ i refl (omega (arith, carried-long 0 z)) ∙ carrier-low (offset (kindOf k) (endOf 0 before) + i) h)
+            low z h (at-byte z _ i refl (omega (arith, carried-long 0 z)) ∙ carrier-low (offset (kindOf k) (endOf 0 before) + i) h)
         laid z false e =
             let h = ltb-false (offset (kindOf k) (endOf 0 before) + i) 16 e in
-            high _ z refl h (at-byte z _ i refl (omega (arith, carried-long 0 z)) ∙ carrier-high (offset (kindOf k) (endOf 0 before) + i) h)
+            high z h (at-byte z _ i refl (omega (arith, carried-long 0 z)) ∙ carrier-high (offset (kindOf k) (endOf 0 before) + i) h)
 
         pair : (f : ℕ) → registerBehind d before k ≡ suc f → kindOf k .size ≡ 8 → i < 8 → (t : Bool) → ltb i 4 ≡ t → Carries d before k i (getD cs i 0)
-        pair f e z h true t = let g = ltb-true i 4 t in odd _ refl (omega arith) z g (in-register (omega arith) z 0 i i (omega arith) g (omega arith))
-        pair f e z h false t = let g = ltb-false i 4 t in even _ refl (omega arith) z g (in-register (omega arith) z 1 (i - 4) i (omega arith) (omega arith) (omega arith))
+        pair f e z h true t = let g = ltb-true i 4 t in odd (omega arith) z g (in-register (omega arith) z 0 i i (omega arith) g (omega arith))
+        pair f e z h false t = let g = ltb-false i 4 t in even (omega arith) z g (in-register (omega arith) z 1 (i - 4) i (omega arith) (omega arith) (omega arith))
 
         go : (f : ℕ) → registerBehind d before k ≡ f → Carries d before k i (getD cs i 0)
         go zero e = laid e (ltb (offset (kindOf k) (endOf 0 before) + i) 16) refl
         go (suc f) e =
             let n = float-long (omega arith) in
             elim (kind-sound k .floats (floats-only d before k (omega arith))) [
-              | inl z ↦ single _ refl (omega arith) z (in-register (omega arith) z 0 i i (omega arith) (omega arith) (omega arith))
+              | inl z ↦ single (omega arith) z (in-register (omega arith) z 0 i i (omega arith) (omega arith) (omega arith))
               | inr z ↦ pair f e z (omega arith) (ltb i 4) refl
             ]
 
     -- and no other
     carries-only : (p : ℕ) → Carries d before k i p → getD cs i 0 ≡ p
-    carries-only p (low o z e h g) = at-byte z o i e (omega (arith, carried-long 0 z)) ∙ carrier-low (o + i) h ∙ sym g
-    carries-only p (high o z e h g) = at-byte z o i e (omega (arith, carried-long 0 z)) ∙ carrier-high (o + i) h ∙ sym g
-    carries-only p (single f e h z g) = let n = float-long (omega arith) in rw (g, ← e) (in-register (omega arith) z 0 i i (omega arith) (omega arith) (omega arith))
-    carries-only p (odd f e h z m g) = rw (g, ← e) (in-register (omega arith) z 0 i i (omega arith) m (omega arith))
-    carries-only p (even f e h z m g) = let n = float-long (omega arith) in rw (g, ← e) (in-register (omega arith) z 1 (i - 4) i (omega arith) (omega arith) (omega arith))
+    carries-only p (low z h g) = at-byte z _ i refl (omega (arith, carried-long 0 z)) ∙ carrier-low (offset (kindOf k) (endOf 0 before) + i) h ∙ sym g
+    carries-only p (high z h g) = at-byte z _ i refl (omega (arith, carried-long 0 z)) ∙ carrier-high (offset (kindOf k) (endOf 0 before) + i) h ∙ sym g
+    carries-only p (single h z g) = let n = float-long h in rw g (in-register h z 0 i i (omega arith) (omega arith) (omega arith))
+    carries-only p (odd h z m g) = rw g (in-register h z 0 i i (omega arith) m (omega arith))
+    carries-only p (even h z m g) = let n = float-long h in rw g (in-register h z 1 (i - 4) i (omega arith) (omega arith) (omega arith))
 
   law : CarriedAt d before k s
   law = record {

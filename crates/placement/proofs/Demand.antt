@@ -12,7 +12,7 @@ use lib.Seq.{take-at, drop-at, getD-append-add}
 use Rattle.words.specs.Words.{Extension, promote, body}
 use Rattle.device.specs.declared.Device.{Device}
 use Rattle.carried.specs.Image as C
-use Rattle.carried.specs.Image.{Placed, gather, image, carried, reading, listLength}
+use Rattle.carried.specs.Image.{Placed, gather, image, reading, listLength}
 use Rattle.carried.specs.Convention.{good, plan, read}
 use Rattle.carried.specs.Demand.{Sized, AllProper, Carried, RoundTrip}
 use Rattle.carried.specs.Demand as D
@@ -21,18 +21,18 @@ use Rattle.o32.specs.declared.State.{State}
 use Rattle.o32.specs.Kinds.{kindOf}
 use Rattle.o32.specs.Offsets.{extension}
 use Rattle.o32.specs.O32.{O32, area}
-use Rattle.answers.specs.Demand.{functionsOf, output, PastSignature, AcceptedSignature, Lent, Accepts, readingOf}
-use Rattle.answers.proofs.Demand.{Early, Planned, planned-of, accepted-of, reads, is-read, rewritings, rewritings-as, accepts-exactly}
+use Rattle.answers.specs.Demand.{functionsOf, output, PastSignature, AcceptedSignature, LentBuffers, Accepts, readingOf}
+use Rattle.answers.proofs.Demand.{Early, Planned, planned-of, accepted-of, reads, is-read, reading-answered, accepted-images, images-as, accepts-exactly}
 use Rattle.answers.proofs.Buffers.{output-done}
 use Rattle.answers.specs.Answers.{writeInto}
-use Rattle.placement.specs.Carrying.{Argument, ArgumentByte, CarriedBy, imageBytes, listBytes}
+use Rattle.placement.specs.Carrying.{KindIn, ArgumentByte, CarriedBy, imageBytes, listBytes}
 use Rattle.placement.specs.Refusing.{Accepted, Improper}
 use Rattle.placement.specs.Demand.{recordAt, bodyIn, Buffers, CarriedBytes, Demand}
 use Rattle.placement.proofs.Laws.{O32-laws, O32-carried, O32-round-trip}
 use Rattle.placement.proofs.Bounds.{plan-bound, reading-long}
 use Rattle.placement.proofs.Bytes.{Of, of, carried-exactly, one-byte, none-shared, bytes-inside}
-use Rattle.placement.proofs.Nothing.{carries-nothing}
-use Rattle.placement.proofs.Refusing.{by-record, refused-exactly}
+use Rattle.placement.proofs.Nothing.{each-byte}
+use Rattle.placement.proofs.Refusing.{by-record, refused-exactly, PlannedAs, accepted-planned}
 use Rattle.placement.proofs.Refusals.{part-long, list-long, image-long}
 use Rattle.placement.proofs.Improper.{proper-at, proper-exactly}
 
@@ -100,7 +100,7 @@ module _ (d : Device) where
     whole = image-long d sig L (s .last) (s .planned)
 
     -- the buffers, in the words of the theorem
-    lent : Buffers sig → Lent (listLength L) (32 + area (s .last .end))
+    lent : Buffers sig → LentBuffers (listLength L) (32 + area (s .last .end))
     lent u = record { list = u .list; image = u .image; list-long = omega (arith, u .list-long, long); image-long = omega (arith, u .image-long, whole) }
 
     module _ (u : Buffers sig) (a : List ℕ) (h : Accepts (functionsOf (O32 d)) sig u a) where
@@ -116,7 +116,7 @@ module _ (d : Device) where
       is-reading = done-inj (sym (reads (O32 d) (O32-laws d) early sig s (lent u) a h) ∙ the .accepts a is-accepted)
 
       -- the record of an argument stands behind those before it
-      module _ (b : Argument sig) where
+      module _ (b : KindIn sig) where
         w : Of d sig L (s .last) (s .planned) b
         w = of d sig L (s .last) (s .planned) b
 
@@ -159,7 +159,11 @@ module _ (d : Device) where
           ∙ getD-gather a (here (b .argument) .carriers) (b .index) (omega (arith, w (b .argument) .carried-so .long, b .inside))
           ∙ ap (λ (q : ℕ). getD a q 0) (w (b .argument) .carried-so .bytes (b .index) p (b .inside) .1 c)
 
-    accepted-by : (u : Buffers sig) (a : List ℕ) → Accepts (functionsOf (O32 d)) sig u a ↔ ((length a ≡ imageBytes sig) × ((b : Argument sig) → Improper b a → ⊥))
+    reading-answered-so : (u : Buffers sig) (a : List ℕ) → Accepts (functionsOf (O32 d)) sig u a → functionsOf (O32 d) .read sig a (u .list) .length ≡ listBytes sig
+    unfolding lent
+    reading-answered-so u a h = reading-answered (O32 d) (O32-laws d) early sig s (lent u) a h ∙ long
+
+    accepted-by : (u : Buffers sig) (a : List ℕ) → Accepts (functionsOf (O32 d)) sig u a ↔ ((length a ≡ imageBytes sig) × ((b : KindIn sig) → Improper b a → ⊥))
     unfolding lent
     accepted-by u a = (
       (λ h. let v = is-accepted u a h in (v .whole ∙ whole, proper-exactly d sig L (s .last) (s .planned) a .0 (v .promoted))),
@@ -169,26 +173,26 @@ module _ (d : Device) where
 
     carried-bytes : CarriedBytes (functionsOf (O32 d)) d sig
     carried-bytes = record {
-      one = one-byte d sig L (s .last) (s .planned);
+      one-carrier = one-byte d sig L (s .last) (s .planned);
       none-shared = none-shared d sig L (s .last) (s .planned);
       inside = λ p h. omega (arith, whole, bytes-inside d sig L (s .last) (s .planned) p h);
-      nothing = carries-nothing d sig L (s .last) (s .planned);
-      enough = (
+      each-byte = each-byte d sig L (s .last) (s .planned);
+      lengths = (
         omega (arith, long, reading-length L [] (the .one-each .sized), reading-long d sig [] L (s .last) (s .planned)),
         omega arith,
         omega (arith, whole, plan-bound d false sig L (s .last) (s .planned) .fits),
       );
-      accepted = accepted-by;
-      reading-length = λ u a h. ap length (is-reading u a h) ∙ reading-length L a (the .one-each .sized) ∙ long;
+      accepted-exactly = accepted-by;
+      reading-length = λ u a h. (reading-answered-so u a h, ap length (is-reading u a h) ∙ reading-length L a (the .one-each .sized) ∙ long);
       reading-kinds = λ u a h b. standing u a h b .kind;
       reading-bodies = body-byte;
-      images = rewritings-as long whole (carried-exactly d sig L (s .last) (s .planned)) (rewritings (O32 d) (O32-laws d) early sig s);
+      images = images-as long whole (carried-exactly d sig L (s .last) (s .planned)) (accepted-images (O32 d) (O32-laws d) early sig s);
     }
 
   -- ---- at all
 
-  told : (sig img out : List ℕ) → PastSignature (functionsOf (O32 d) .read sig img out .refusal) → AcceptedSignature (functionsOf (O32 d)) sig
-  told sig img out h = accepted-of (O32 d) (O32-laws d) early sig (planned-of (O32 d) (O32-laws d) early sig img out h)
+  one-answer-decides : (sig img out : List ℕ) → PastSignature (functionsOf (O32 d) .read sig img out .refusal) → AcceptedSignature (functionsOf (O32 d)) sig
+  one-answer-decides sig img out h = accepted-of (O32 d) (O32-laws d) early sig (planned-of (O32 d) (O32-laws d) early sig img out h)
 
   -- a list that the writer accepts, and its image
   given : (list out : List ℕ) (L : List Placed) (last : State) → plan (O32 d) true list ≡ good L last → functionsOf (O32 d) .write list out .refusal ≡ 0
@@ -199,16 +203,17 @@ module _ (d : Device) where
       go true f = let z : _≡_ {A = ℕ} 7 0 = rw (e, f) at h in absurd (omega arith)
       go false f = output-done (image (32 + area (last .end)) L list) out (writeInto (O32 d) list (length out)) (rw (e, f) refl) .1
 
-  round-trip : (list ks out : List ℕ) → Accepted d true list ks → functionsOf (O32 d) .write list out .refusal ≡ 0
+  round-trip : (list ks out : List ℕ) → Accepted true list ks → functionsOf (O32 d) .write list out .refusal ≡ 0
       → AcceptedSignature (functionsOf (O32 d)) ks
       × ((u : Buffers ks) → Accepts (functionsOf (O32 d)) ks u (output (functionsOf (O32 d) .write list out))
       × (readingOf (functionsOf (O32 d)) ks u (output (functionsOf (O32 d) .write list out)) ≡ list))
   unfolding lent
-  round-trip list ks out a h =
+  round-trip list ks out v h =
+      let a : PlannedAs d true list ks = accepted-planned d true list ks v in
       let t : RoundTrip (O32 d) list (a .placed) (a .last) = O32-round-trip d list (a .placed) (a .last) (a .planned) in
-      let s : Planned (O32 d) (O32-laws d) early ks = record { placed = a .placed; last = a .last; planned = ap (plan (O32 d) false) (sym (a .are)) ∙ t .signature } in
+      let s : Planned (O32 d) (O32-laws d) early ks = record { placed = a .placed; last = a .last; planned = ap (plan (O32 d) false) (sym (a .kinds-are)) ∙ t .signature } in
       let r : read (O32 d) ks (output (functionsOf (O32 d) .write list out)) ≡ C.done list =
-      ap₂ (read (O32 d)) (sym (a .are)) (given list out (a .placed) (a .last) (a .planned) h) ∙ t .reads in (
+      ap₂ (read (O32 d)) (sym (a .kinds-are)) (given list out (a .placed) (a .last) (a .planned) h) ∙ t .reads in (
         accepted-of (O32 d) (O32-laws d) early ks s,
         λ u. is-read (O32 d) (O32-laws d) early ks s (lent ks s u) (output (functionsOf (O32 d) .write list out)) list r,
       )
@@ -217,9 +222,9 @@ module _ (d : Device) where
   -- since an image of no bytes is refused 6
   pub demand : Demand (functionsOf (O32 d)) d
   demand = record {
-    carried = λ sig h. carried-bytes sig (planned-of (O32 d) (O32-laws d) early sig [] [] (h [] []));
-    told = told;
+    carried-bytes = λ sig h. carried-bytes sig (planned-of (O32 d) (O32-laws d) early sig [] [] (h [] []));
+    one-answer-decides = one-answer-decides;
     round-trip = round-trip;
-    longest-list = (replicate 32 0x5F ++ (0x0A ∷ []), told (replicate 32 0x5F ++ (0x0A ∷ [])) [] [] (inr (inl refl)), refl);
-    longest-image = (0xFF ∷ 0xFF ∷ [], told (0xFF ∷ 0xFF ∷ []) [] [] (inr (inl refl)), refl);
+    longest-list = (replicate 32 0x5F ++ (0x0A ∷ []), one-answer-decides (replicate 32 0x5F ++ (0x0A ∷ [])) [] [] (inr (inl refl)), refl);
+    longest-image = (0xFF ∷ 0xFF ∷ [], one-answer-decides (0xFF ∷ 0xFF ∷ []) [] [] (inr (inl refl)), refl);
   }

@@ -25,7 +25,7 @@ use Rattle.o32.specs.declared.State.{State}
 use Rattle.o32.specs.Kinds.{kindOf, is, classNumber}
 use Rattle.o32.specs.Offsets.{extension, width, offset}
 use Rattle.o32.specs.O32.{O32, run, carrier}
-use Rattle.placement.specs.Carrying.{endOf, registerBehind, Argument}
+use Rattle.placement.specs.Carrying.{endOf, registerBehind, KindIn}
 use Rattle.placement.specs.Refusing.{argumentBehind, Improper, FirstImproper}
 use Rattle.placement.proofs.KindFacts.{unpromoted-width}
 use Rattle.placement.proofs.Carrying.{unfloated}
@@ -67,18 +67,18 @@ unextended k e = go (is Signed k) (is Unsigned k) refl refl e
     go true b f g h = cc
 
 module _ (d : Device) (sig : List ℕ) (L : List Placed) (last : State) (ok : plan (O32 d) false sig ≡ good L last) (img : List ℕ) where
-  abbrev word : Argument sig → List ℕ
+  abbrev word : KindIn sig → List ℕ
   word a = map carrier (run (offset (kindOf (a .kind)) (endOf 0 (a .before))) 4)
 
   -- a kind that is promoted has its word by offset, and any other is proper
-  word-test : (a : Argument sig) → promoted (kindOf (a .kind)) ≡ true
+  word-test : (a : KindIn sig) → promoted (kindOf (a .kind)) ≡ true
       → isProper (recordOf d sig L last ok a) img ≡ proper (extension (kindOf (a .kind))) (kindOf (a .kind) .size) (gather img (word a))
   word-test a e =
       let z : registerBehind d (a .before) (a .kind) ≡ 0 = unfloated d (a .before) (a .kind) (no-float (kindOf (a .kind)) e) in
       let w : width (kindOf (a .kind)) ≡ 4 = rw e refl in
       rw (z, w) refl
 
-  other-test : (a : Argument sig) → promoted (kindOf (a .kind)) ≡ false → isProper (recordOf d sig L last ok a) img ≡ true
+  other-test : (a : KindIn sig) → promoted (kindOf (a .kind)) ≡ false → isProper (recordOf d sig L last ok a) img ≡ true
   other-test a e =
       let s : Placed = recordOf d sig L last ok a in
       let n : length (gather img (s .carriers)) ≡ kindOf (a .kind) .size =
@@ -86,10 +86,10 @@ module _ (d : Device) (sig : List ℕ) (L : List Placed) (last : State) (ok : pl
       ∙ unpromoted-width (kindOf (a .kind)) e in
       rw (unextended (kindOf (a .kind)) e) (proper-whole (kindOf (a .kind) .size) (gather img (s .carriers)) n)
 
-  improper-so : (a : Argument sig) → Improper a img → isProper (recordOf d sig L last ok a) img ≡ false
+  improper-so : (a : KindIn sig) → Improper a img → isProper (recordOf d sig L last ok a) img ≡ false
   improper-so a h = word-test a (h .0) ∙ h .1
 
-  so-improper : (a : Argument sig) → isProper (recordOf d sig L last ok a) img ≡ false → Improper a img
+  so-improper : (a : KindIn sig) → isProper (recordOf d sig L last ok a) img ≡ false → Improper a img
   so-improper a h = go (promoted (kindOf (a .kind))) refl
     where
       go : (t : Bool) → promoted (kindOf (a .kind)) ≡ t → Improper a img
@@ -97,14 +97,14 @@ module _ (d : Device) (sig : List ℕ) (L : List Placed) (last : State) (ok : pl
       go false e = let z : _≡_ {A = ℕ} 0 1 = cc (other-test a e) in absurd (omega arith)
 
   -- a record is improper where its argument is
-  tests-as : (s : Placed) (a : Argument sig) → s ≡ recordOf d sig L last ok a → isProper s img ≡ isProper (recordOf d sig L last ok a) img
+  tests-as : (s : Placed) (a : KindIn sig) → s ≡ recordOf d sig L last ok a → isProper s img ≡ isProper (recordOf d sig L last ok a) img
   tests-as s a e = ap (λ (r : Placed). isProper r img) e
 
-  number-as : (s : Placed) (a : Argument sig) → s ≡ recordOf d sig L last ok a → s .argument ≡ argumentBehind (a .before) (a .kind)
+  number-as : (s : Placed) (a : KindIn sig) → s ≡ recordOf d sig L last ok a → s .argument ≡ argumentBehind (a .before) (a .kind)
   number-as s a e = ap (λ (r : Placed). r .argument) e ∙ number-behind (a .before) (a .kind)
 
   -- a record of an argument that is improper, and one that is not
-  improper-at : (a : Argument sig) → Improper a img → isProper (of d sig L last ok a .among .here) img ≡ false
+  improper-at : (a : KindIn sig) → Improper a img → isProper (of d sig L last ok a .among .here) img ≡ false
   improper-at a m = tests-as (of d sig L last ok a .among .here) a (of d sig L last ok a .placed-so) ∙ improper-so a m
 
   proper-unless : (here : Among L) → (Improper (argument-of d sig L last ok here) img → ⊥) → isProper (here .here) img ≡ true
@@ -113,11 +113,11 @@ module _ (d : Device) (sig : List ℕ) (L : List Placed) (last : State) (ok : pl
       go : (t : Bool) → isProper (here .here) img ≡ t → isProper (here .here) img ≡ true
       go true e = e
       go false e =
-          let a : Argument sig = argument-of d sig L last ok here in
+          let a : KindIn sig = argument-of d sig L last ok here in
           absurd (h (so-improper a (sym (tests-as (here .here) a (among-so d sig L last ok here)) ∙ e)))
 
   -- all records of an image are proper exactly when no argument is improper,
-  pub proper-exactly : AllProper L img ↔ ((a : Argument sig) → Improper a img → ⊥)
+  pub proper-exactly : AllProper L img ↔ ((a : KindIn sig) → Improper a img → ⊥)
   proper-exactly = (
     (λ h a m.
         let v : Among L = of d sig L last ok a .among in
@@ -134,7 +134,7 @@ module _ (d : Device) (sig : List ℕ) (L : List Placed) (last : State) (ok : pl
       there : ImproperAt img L place j → FirstImproper sig img place j
       there w =
           let here : Among L = record { before = w .before; here = w .here; behind = w .behind; records = w .records } in
-          let a : Argument sig = argument-of d sig L last ok here in
+          let a : KindIn sig = argument-of d sig L last ok here in
           let e : w .here ≡ recordOf d sig L last ok a = among-so d sig L last ok here in
           record {
             argument = a;

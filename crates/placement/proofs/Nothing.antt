@@ -3,9 +3,9 @@
 -- Assumes nothing.
 use mathlib.Core.Path.{_≡_, refl, sym, ap, _∙_, subst}
 use mathlib.Core.Logic.{_⊎_, inl, inr}
-use mathlib.Core.List.{List, [], _∷_, _++_}
+use mathlib.Core.List.{List, [], _∷_, _++_, append-assoc, append-nil}
 use mathlib.Core.Bool.{Bool, true, false, cond, _&&_}
-use Prim.Native.Nat.{ℕ, _+_, _-_, _*_, _≤_, _<_}
+use Prim.Native.Nat.{ℕ, zero, suc, _+_, _-_, _*_, _/_, _≤_, _<_}
 use native.Mathlib.Omega.{arith}
 use lib.ListN.{length}
 use lib.Dec.{ltb}
@@ -13,8 +13,10 @@ use borrow.Author.Tests.{ltb-true, ltb-false}
 use Rattle.words.specs.Words.{up}
 use Rattle.device.specs.declared.Device.{Device}
 use Rattle.device.specs.declared.Device.the-variants.{Fpu, NoFpu}
-use Rattle.carried.specs.Image.{Placed}
+use Rattle.carried.specs.Image.{Placed, carried}
+use Rattle.carried.specs.Demand.{In}
 use Rattle.carried.specs.Convention.{good, plan}
+use Rattle.carried.proofs.Places.{in-or-not}
 use Rattle.carried.proofs.Splits.{Later, later, Same, same}
 use Rattle.carried.proofs.Walks.{Walk, end, one, walk-of}
 use Rattle.o32.specs.declared.Class.the-variants.{Unknown, Marker, Float}
@@ -22,12 +24,13 @@ use Rattle.o32.specs.declared.State.{State}
 use Rattle.o32.specs.Kinds.{kindOf, is}
 use Rattle.o32.specs.Offsets.{width, offset, ending}
 use Rattle.o32.specs.O32.{O32, carrier, start}
-use Rattle.placement.specs.Carrying.{endOf, registerBehind, low, high, single, odd, even, Argument, ArgumentByte, CarriedBy, CarriedByte}
-use Rattle.placement.specs.Nothing.{endBefore, offsetOf, widthOf, GivenTo, CarriesNothing}
+use Rattle.placement.specs.Carrying.{endOf, registerBehind, low, high, single, odd, even, KindIn, endBefore, offsetOf, widthOf, ArgumentByte, CarriedBy, CarriedByte}
+use Rattle.placement.specs.Nothing.{GivenTo, Empty, fill, hole, bypassed, unused, home, unused-float, EachByte}
 use Rattle.placement.proofs.KindFacts.{kind-sound, float-width}
 use Rattle.placement.proofs.Laws.{O32-laws, up-ge}
 use Rattle.placement.proofs.Steps.{step-says, marker-width, none-up}
 use Rattle.placement.proofs.Carrying.{floats-only}
+use Rattle.placement.proofs.Bytes.{carried-exactly}
 
 -- ---- kinds that are known, and where they end
 
@@ -112,38 +115,38 @@ same-offset x y e = elim (carrier-cases x) [
 
 module _ (d : Device) (sig : List ℕ) where
   where-is : (b : ArgumentByte sig) (p : ℕ) → CarriedBy d b p → Where d b p
-  where-is b p (low o z e h g) = elim (carrier-cases (o + b .index)) [
-    | inl x ↦ at-offset (o + b .index) z (ap (λ (y : ℕ). y + b .index) e) (g ∙ sym (x .1))
+  where-is b p (low z h g) = elim (carrier-cases (offsetOf (b .argument) + b .index)) [
+    | inl x ↦ at-offset (offsetOf (b .argument) + b .index) z refl (g ∙ sym (x .1))
     | inr x ↦ absurd (omega arith)
   ]
-  where-is b p (high o z e h g) = elim (carrier-cases (o + b .index)) [
+  where-is b p (high z h g) = elim (carrier-cases (offsetOf (b .argument) + b .index)) [
     | inl x ↦ absurd (omega arith)
-    | inr x ↦ at-offset (o + b .index) z (ap (λ (y : ℕ). y + b .index) e) (g ∙ sym (x .1))
+    | inr x ↦ at-offset (offsetOf (b .argument) + b .index) z refl (g ∙ sym (x .1))
   ]
-  where-is b p (single f z e h g) =
+  where-is b p (single h z g) =
       let k : ℕ = b .argument .kind in
-      let n : b .index < 4 = omega (arith, b .inside, float-width (kindOf k) (floats-only d (b .argument .before) k (omega arith))) in
-      elim (register-values d (b .argument .before) k (omega arith)) [
-        | inl v ↦ in-float f (omega arith, inl (sym z)) (omega arith, omega arith) (omega arith, omega arith)
-        | inr v ↦ in-float f (omega arith, inl (sym z)) (omega arith, omega arith) (omega arith, omega arith)
+      let n : b .index < 4 = omega (arith, b .inside, float-width (kindOf k) (floats-only d (b .argument .before) k h)) in
+      elim (register-values d (b .argument .before) k h) [
+        | inl v ↦ in-float _ (h, inl refl) (omega arith, omega arith) (omega arith, omega arith)
+        | inr v ↦ in-float _ (h, inl refl) (omega arith, omega arith) (omega arith, omega arith)
       ]
-  where-is b p (odd f z e h n g) = elim (register-values d (b .argument .before) (b .argument .kind) (omega arith)) [
-    | inl v ↦ in-float (f + 1) (omega arith, inr (omega arith, h)) (omega arith, omega arith) (omega arith, omega arith)
-    | inr v ↦ in-float (f + 1) (omega arith, inr (omega arith, h)) (omega arith, omega arith) (omega arith, omega arith)
+  where-is b p (odd h z n g) = elim (register-values d (b .argument .before) (b .argument .kind) h) [
+    | inl v ↦ in-float _ (h, inr (refl, z)) (omega arith, omega arith) (omega arith, omega arith)
+    | inr v ↦ in-float _ (h, inr (refl, z)) (omega arith, omega arith) (omega arith, omega arith)
   ]
-  where-is b p (even f z e h n g) =
+  where-is b p (even h z n g) =
       let k : ℕ = b .argument .kind in
-      let m : b .index < 8 = omega (arith, b .inside, float-width (kindOf k) (floats-only d (b .argument .before) k (omega arith))) in
-      elim (register-values d (b .argument .before) k (omega arith)) [
-        | inl v ↦ in-float f (omega arith, inl (sym z)) (omega arith, omega arith) (omega arith, omega arith)
-        | inr v ↦ in-float f (omega arith, inl (sym z)) (omega arith, omega arith) (omega arith, omega arith)
+      let m : b .index < 8 = omega (arith, b .inside, float-width (kindOf k) (floats-only d (b .argument .before) k h)) in
+      elim (register-values d (b .argument .before) k h) [
+        | inl v ↦ in-float _ (h, inl refl) (omega arith, omega arith) (omega arith, omega arith)
+        | inr v ↦ in-float _ (h, inl refl) (omega arith, omega arith) (omega arith, omega arith)
       ]
 
   -- ---- at an offset
 
   -- the argument whose byte is carried at this offset
   record Own (x : ℕ) : Type 0 where
-    argument : Argument sig
+    argument : KindIn sig
     unfloated : registerBehind d (argument .before) (argument .kind) ≡ 0
     from : offsetOf argument ≤ x
     before-end : x < offsetOf argument + widthOf argument
@@ -157,18 +160,21 @@ module _ (d : Device) (sig : List ℕ) where
           record { argument = h .0 .argument; unfloated = z; from = omega arith; before-end = omega (arith, h .0 .inside) }
       go (in-float g w r s) = elim (carrier-cases x) [ inl y ↦ absurd (omega arith) | inr y ↦ absurd (omega arith) ]
 
+  at-carrier : (x : ℕ) {p : ℕ} → p ≡ carrier x → CarriedByte d sig p → CarriedByte d sig (carrier x)
+  at-carrier x e c = subst (CarriedByte d sig) e c
+
   module _ (known : Known sig) where
-    of-known : (a : Argument sig) → Known (a .before ++ (a .kind ∷ a .behind))
+    of-known : (a : KindIn sig) → Known (a .before ++ (a .kind ∷ a .behind))
     of-known a = subst Known (sym (a .here)) known
 
-    abbrev endAfter : Argument sig → ℕ
+    abbrev endAfter : KindIn sig → ℕ
     endAfter a = next-end (endBefore a) (a .kind)
 
-    argument-lies : (a : Argument sig) → Lies (endBefore a) (a .kind)
+    argument-lies : (a : KindIn sig) → Lies (endBefore a) (a .kind)
     argument-lies a = lies (endBefore a) (a .kind) (known-right (a .before) (a .kind ∷ a .behind) (of-known a) .0)
 
     -- an earlier argument ends before a later one begins
-    ordered : (a b : Argument sig) → length (a .before) < length (b .before) → endAfter a ≤ endBefore b
+    ordered : (a b : KindIn sig) → length (a .before) < length (b .before) → endAfter a ≤ endBefore b
     ordered a b h =
         let w : Later (a .before) (a .kind) (b .before) = later (a .before) (a .kind) (a .behind) (b .before) (b .kind) (b .behind) (a .here ∙ sym (b .here)) h in
         let e : endBefore b ≡ endOf (endAfter a) (w .between) = ap (endOf 0) (w .before) ∙ end-append (a .before) (a .kind ∷ w .between) 0 in
@@ -176,7 +182,7 @@ module _ (d : Device) (sig : List ℕ) where
         omega (arith, e, end-grows (w .between) (endAfter a) n)
 
     -- and each ends before the end of all
-    all-end : (a : Argument sig) → endAfter a ≤ endOf 0 sig
+    all-end : (a : KindIn sig) → endAfter a ≤ endOf 0 sig
     all-end a =
         let e : endOf 0 sig ≡ endOf (endAfter a) (a .behind) = ap (endOf 0) (sym (a .here)) ∙ end-append (a .before) (a .kind ∷ a .behind) 0 in
         omega (arith, e, end-grows (a .behind) (endAfter a) (known-right (a .before) (a .kind ∷ a .behind) (of-known a) .1))
@@ -189,7 +195,7 @@ module _ (d : Device) (sig : List ℕ) where
     ]
 
     -- of the offsets of an argument only its own bytes are carried, and only if it has no floating register
-    only : (a : Argument sig) (x : ℕ) → endBefore a ≤ x → x < endAfter a → CarriedByte d sig (carrier x)
+    only : (a : KindIn sig) (x : ℕ) → endBefore a ≤ x → x < endAfter a → CarriedByte d sig (carrier x)
         → (registerBehind d (a .before) (a .kind) ≡ 0) × (offsetOf a ≤ x) × (x < offsetOf a + widthOf a)
     only a x h g m = go (own x m)
       where
@@ -206,34 +212,124 @@ module _ (d : Device) (sig : List ℕ) where
                 let s : Same (a .before) (a .kind) (o .argument .before) (o .argument .kind) = same (a .before) (a .kind) (a .behind) (o .argument .before) (o .argument .kind) (o .argument .behind) (a .here ∙ sym (o .argument .here)) n in
                 rw (s .before-same, s .here-same) (o .unfloated, o .from, o .before-end)
 
-    pub nothing : CarriesNothing d sig
-    nothing = record {
-      fill = λ a x h g m. elim (argument-lies a) [
-        | marker w z n ↦ omega (arith, w, z)
-        | laid b n ↦ omega (arith, only a x (omega (arith, b)) (omega (arith, n)) m .2)
-      ];
-      hole = λ a x h g m. elim (argument-lies a) [
-        | marker w z n ↦ omega (arith, z)
-        | laid b n ↦ omega (arith, only a x h (omega (arith, n)) m .1)
-      ];
-      beside = λ a r x h g m. elim (argument-lies a) [
-        | marker w z n ↦ omega (arith, w)
-        | laid b n ↦ omega (arith, only a x (omega (arith, b)) (omega (arith, n, up-ge 4 (widthOf a) (omega arith))) m .0)
-      ];
-      unused = λ x h m. let o : Own x = own x m in omega (arith, own-lies o, all-end (o .argument));
-      homes = λ p h g m. elim (where-is (m .0) p (m .1)) [
-        | at-offset x z e q ↦ elim (carrier-cases x) [ inl y ↦ omega arith | inr y ↦ omega arith ]
-        | in-float f w r s ↦ omega arith
-      ];
-      floats = λ g h l none p a b m. elim (where-is (m .0) p (m .1)) [
-        | at-offset x z e q ↦ elim (carrier-cases x) [ inl y ↦ omega arith | inr y ↦ omega arith ]
-        | in-float f w r s ↦ let e : f ≡ g = omega arith in none (m .0 .argument) (subst (GivenTo d (m .0 .argument)) e w)
-      ];
-    }
+    never-both : (p : ℕ) → Empty d sig p → CarriedByte d sig p → ⊥
+    never-both p (fill a x h g e) c = elim (argument-lies a) [
+      | marker w z n ↦ omega (arith, w, z)
+      | laid b n ↦ omega (arith, only a x (omega (arith, b)) (omega (arith, n)) (at-carrier x e c) .2)
+    ]
+    never-both p (hole a x h g e) c = elim (argument-lies a) [
+      | marker w z n ↦ omega (arith, z)
+      | laid b n ↦ omega (arith, only a x h (omega (arith, n)) (at-carrier x e c) .1)
+    ]
+    never-both p (bypassed a x r h g e) c = elim (argument-lies a) [
+      | marker w z n ↦ omega (arith, w)
+      | laid b n ↦ omega (arith, only a x (omega (arith, b)) (omega (arith, n, up-ge 4 (widthOf a) (omega arith))) (at-carrier x e c) .0)
+    ]
+    never-both p (unused x h e) c = let o : Own x = own x (at-carrier x e c) in omega (arith, own-lies o, all-end (o .argument))
+    never-both p (home h g) c = elim (where-is (c .0) p (c .1)) [
+      | at-offset x z e q ↦ elim (carrier-cases x) [ inl y ↦ omega arith | inr y ↦ omega arith ]
+      | in-float f w r s ↦ omega arith
+    ]
+    never-both p (unused-float g h l none a b) c = elim (where-is (c .0) p (c .1)) [
+      | at-offset x z e q ↦ elim (carrier-cases x) [ inl y ↦ omega arith | inr y ↦ omega arith ]
+      | in-float f w r s ↦ let e : f ≡ g = omega arith in none (c .0 .argument) (subst (GivenTo d (c .0 .argument)) e w)
+    ]
+
+    -- ---- and nothing else is
+
+    -- the kind whose offsets have this one
+    record Around (x : ℕ) : Type 0 where
+      argument : KindIn sig
+      from : endBefore argument ≤ x
+      before-end : x < endAfter argument
+
+    around : (ks before : List ℕ) (x : ℕ) → before ++ ks ≡ sig → endOf 0 before ≤ x → x < endOf 0 sig → Around x
+    around [] before x e h g = let z : endOf 0 before ≡ endOf 0 sig = ap (endOf 0) (sym (append-nil before) ∙ e) in absurd (omega arith)
+    around (k ∷ ks) before x e h g = go (ltb x (next-end (endOf 0 before) k)) refl
+        (around ks (before ++ (k ∷ [])) x (append-assoc before (k ∷ []) ks ∙ e))
+      where
+        go : (t : Bool) → ltb x (next-end (endOf 0 before) k) ≡ t → (endOf 0 (before ++ (k ∷ [])) ≤ x → x < endOf 0 sig → Around x) → Around x
+        go true f rest = record { argument = record { before = before; kind = k; behind = ks; here = e }; from = h; before-end = ltb-true x (next-end (endOf 0 before) k) f }
+        go false f rest = rest (omega (arith, end-append before (k ∷ []) 0, ltb-false x (next-end (endOf 0 before) k) f)) g
+
+    -- a byte of an argument by its offset
+    own-byte : (a : KindIn sig) (x : ℕ) → registerBehind d (a .before) (a .kind) ≡ 0 → offsetOf a ≤ x → x < offsetOf a + widthOf a → CarriedByte d sig (carrier x)
+    own-byte a x z h g =
+        let n : offsetOf a + (x - offsetOf a) ≡ x = omega arith in
+        (record { argument = a; index = x - offsetOf a; inside = omega arith }, elim (carrier-cases x) [ inl y ↦ low z (omega arith) (omega arith) | inr y ↦ high z (omega arith) (omega arith) ])
+
+    -- a byte of a floating register that an argument is given
+    float-byte : (a : KindIn sig) (g p : ℕ) → GivenTo d a g → 16 + 4 * (g - 12) ≤ p → p < 20 + 4 * (g - 12) → CarriedByte d sig p
+    float-byte a g p w h l =
+        let f : ℕ = registerBehind d (a .before) (a .kind) in
+        let n : widthOf a ≡ kindOf (a .kind) .size = float-width (kindOf (a .kind)) (floats-only d (a .before) (a .kind) (w .0)) in
+        elim (kind-sound (a .kind) .floats (floats-only d (a .before) (a .kind) (w .0))) [
+          | inl z ↦ elim (w .1) [
+            | inl e ↦ (record { argument = a; index = p - (16 + 4 * (g - 12)); inside = omega arith }, single (w .0) z (omega arith))
+            | inr e ↦ absurd (omega (arith, e .1))
+          ]
+          | inr z ↦ elim (w .1) [
+            | inl e ↦ (record { argument = a; index = 4 + (p - (16 + 4 * (g - 12))); inside = omega arith }, even (w .0) z (omega arith) (omega arith))
+            | inr e ↦ (record { argument = a; index = p - (16 + 4 * (g - 12)); inside = omega arith }, odd (w .0) z (omega arith) (omega (arith, e .0)))
+          ]
+        ]
+
+    -- an offset of an argument: a hole, its own byte, or fill
+    in-argument : (p x : ℕ) → p ≡ carrier x → (a : KindIn sig) → endBefore a ≤ x → x < endAfter a → CarriedByte d sig p ⊎ Empty d sig p
+    in-argument p x e a h g = go (ltb x (offsetOf a)) (ltb x (offsetOf a + widthOf a)) refl refl
+      where
+        by-register : (f : ℕ) → registerBehind d (a .before) (a .kind) ≡ f → offsetOf a ≤ x → x < offsetOf a + widthOf a → CarriedByte d sig p ⊎ Empty d sig p
+        by-register zero z m n = inl (subst (CarriedByte d sig) (sym e) (own-byte a x z m n))
+        by-register (suc f) z m n = inr (bypassed a x (omega arith) m n e)
+
+        go : (t u : Bool) → ltb x (offsetOf a) ≡ t → ltb x (offsetOf a + widthOf a) ≡ u → CarriedByte d sig p ⊎ Empty d sig p
+        go true u i j = inr (hole a x h (ltb-true x (offsetOf a) i) e)
+        go false true i j = by-register (registerBehind d (a .before) (a .kind)) refl (ltb-false x (offsetOf a) i) (ltb-true x (offsetOf a + widthOf a) j)
+        go false false i j = elim (argument-lies a) [
+          | marker w z n ↦ absurd (omega (arith, n))
+          | laid b n ↦ inr (fill a x (ltb-false x (offsetOf a + widthOf a) j) (omega (arith, n)) e)
+        ]
+
+    at-an-offset : (p x : ℕ) → p ≡ carrier x → CarriedByte d sig p ⊎ Empty d sig p
+    at-an-offset p x e = go (ltb x (endOf 0 sig)) refl
+      where
+        go : (t : Bool) → ltb x (endOf 0 sig) ≡ t → CarriedByte d sig p ⊎ Empty d sig p
+        go true f =
+            let o : Around x = around sig [] x refl (omega arith) (ltb-true x (endOf 0 sig) f) in
+            in-argument p x e (o .argument) (o .from) (o .before-end)
+        go false f = inr (unused x (ltb-false x (endOf 0 sig) f) e)
+
+    -- a byte of a floating word is carried, or no argument is given its register
+    in-a-float : (p : ℕ) → 16 ≤ p → p < 32 → CarriedByte d sig p ⊎ (CarriedByte d sig p → ⊥) → CarriedByte d sig p ⊎ Empty d sig p
+    in-a-float p h l (inl c) = inl c
+    in-a-float p h l (inr c) =
+        let g : ℕ = 12 + (p - 16) / 4 in
+        inr (unused-float g (omega arith) (omega arith) (λ a w. c (float-byte a g p w (omega arith) (omega arith))) (omega arith) (omega arith))
+
+    pub either : (p : ℕ) → CarriedByte d sig p ⊎ (CarriedByte d sig p → ⊥) → CarriedByte d sig p ⊎ Empty d sig p
+    either p decided = go (ltb p 16) (ltb p 32) (ltb p 48) refl refl refl
+      where
+        high-offset : 48 ≤ p → p ≡ carrier (p - 32)
+        high-offset h = elim (carrier-cases (p - 32)) [ inl y ↦ absurd (omega arith) | inr y ↦ omega arith ]
+
+        low-offset : p < 16 → p ≡ carrier p
+        low-offset h = elim (carrier-cases p) [ inl y ↦ sym (y .1) | inr y ↦ absurd (omega arith) ]
+
+        go : (t u v : Bool) → ltb p 16 ≡ t → ltb p 32 ≡ u → ltb p 48 ≡ v → CarriedByte d sig p ⊎ Empty d sig p
+        go true u v e f g = at-an-offset p p (low-offset (ltb-true p 16 e))
+        go false true v e f g = in-a-float p (ltb-false p 16 e) (ltb-true p 32 f) decided
+        go false false true e f g = inr (home (ltb-false p 32 f) (ltb-true p 48 g))
+        go false false false e f g = at-an-offset p (p - 32) (high-offset (ltb-false p 48 g))
 
 -- at every accepted signature, on every device
-pub carries-nothing : (d : Device) (sig : List ℕ) (L : List Placed) (last : State) → plan (O32 d) false sig ≡ good L last → CarriesNothing d sig
-carries-nothing d sig L last ok = nothing d sig (walk-known d (walk-of (O32 d) (O32-laws d) sig start L last 0 ok))
+pub each-byte : (d : Device) (sig : List ℕ) (L : List Placed) (last : State) → plan (O32 d) false sig ≡ good L last → EachByte d sig
+each-byte d sig L last ok =
+    let known : Known sig = walk-known d (walk-of (O32 d) (O32-laws d) sig start L last 0 ok) in
+    record { either = λ p h. either d sig known p (decided p (in-or-not p (carried L))); never-both = never-both d sig known }
+  where
+    decided : (p : ℕ) → In p (carried L) ⊎ (In p (carried L) → ⊥) → CarriedByte d sig p ⊎ (CarriedByte d sig p → ⊥)
+    decided p (inl m) = inl (carried-exactly d sig L last ok p .1 m)
+    decided p (inr n) = inr (λ c. n (carried-exactly d sig L last ok p .0 c))
 
 -- Request (ii) of document 02, on the device without a floating-point unit: "no floating register is used and those four image words
 -- carry nothing".

@@ -2,18 +2,20 @@
 -- Assumes nothing.
 use mathlib.Core.Path.{_≡_, refl, sym, ap, _∙_, subst}
 use mathlib.Core.Logic.{_⊎_, _↔_, inl, inr}
-use mathlib.Core.List.{List, [], _∷_}
+use mathlib.Core.List.{List, [], _∷_, _++_}
 use mathlib.Core.Bool.{Bool, true, false, cond, not, _&&_, _||_}
-use Prim.Native.Nat.{ℕ, _+_, _-_, _≤_, _<_}
+use Prim.Native.Nat.{ℕ, suc, _+_, _-_, _≤_, _<_}
 use native.Mathlib.Omega.{arith}
-use lib.ListN.{length, getD, take}
+use lib.ListN.{length, getD, take, drop, take-append-drop}
+use lib.Seq.{drop-cons}
 use lib.Dec.{eqb, leb, ltb}
 use borrow.Author.Tests.{eqb-true, eqb-false, ltb-true, ltb-false, leb-true, leb-false, le-leb, ne-eqb}
 use Rattle.device.specs.declared.Device.{Device}
-use Rattle.carried.specs.Image.{Placed}
+use Rattle.carried.specs.Image.{Placed, listLength}
 use Rattle.carried.specs.Convention.{Step, refuse, next, Plan, bad, good, behind, limited, taken, plan}
 use Rattle.carried.specs.Demand.{kinds}
-use Rattle.carried.proofs.Walks.{Walk, end, one, walk-by-kinds, walk-fits}
+use Rattle.carried.proofs.Walks.{Walk, end, one, walk-of, walk-kinds, walk-by-kinds, walk-fits, WalkTo, walk-to}
+use Rattle.carried.proofs.Wholeness.{Whole, plan-whole, whole-plan}
 use Rattle.carried.proofs.Refusals.{StopsAt, plan-stops}
 use Rattle.o32.specs.declared.Class.the-variants.{Unknown, Marker, Pointer}
 use Rattle.o32.specs.declared.Kind.{Kind}
@@ -23,8 +25,8 @@ use Rattle.o32.specs.Kinds.{kindOf, is, classNumber}
 use Rattle.o32.specs.Offsets.{ending}
 use Rattle.o32.specs.O32 as O
 use Rattle.o32.specs.O32.{onward, argument, placement, start, O32}
-use Rattle.placement.specs.Carrying.{endOf}
-use Rattle.placement.specs.Refusing.{countOf, argumentsIn, argumentBehind, Misplaced, Condition, unknown, misplaced, full, cut, beyond, Accepted, RefusedAt}
+use Rattle.placement.specs.Carrying.{endOf, KindIn, listBytes}
+use Rattle.placement.specs.Refusing.{countOf, argumentsIn, argumentBehind, Misplaced, Condition, unknown, misplaced, full, cut, beyond, Records, Accepted, RefusedAt}
 use Rattle.placement.proofs.Laws.{O32-laws}
 use Rattle.placement.proofs.Steps.{Stepped, step-says}
 use Rattle.placement.proofs.Carrying.{reach-end}
@@ -268,11 +270,93 @@ module _ (d : Device) {ks : List ℕ} {L : List Placed} {last : State} (w : Walk
                   rw (e, g) refl
           go (next j′ p st) v h f n = absurd (v r (omega (arith, by-record h)) h)
 
--- ---- a list or a signature
+-- ---- a list or a signature that is accepted
+
+-- each record has the body of its kind
+abbrev pub Bodied : List Placed → Type 0
+Bodied [] = Unit {0}
+Bodied (s ∷ L) = (s .size ≡ kindOf (s .kind) .size) × Bodied L
+
+pub bodied-left : (M N : List Placed) → Bodied (M ++ N) → Bodied M
+bodied-left [] N h = tt
+bodied-left (s ∷ M) N h = (h .0, bodied-left M N (h .1))
+
+pub bodied-list : (L : List Placed) → Bodied L → listLength L ≡ listBytes (kinds L)
+bodied-list [] h = refl
+bodied-list (s ∷ L) h = omega (arith, h .0, bodied-list L (h .1))
+
+-- records are whole, by their kinds
+whole-records : (bodies : Bool) (L : List Placed) (l : List ℕ) → Bodied L → Whole bodies L l → Records bodies (kinds L) l
+whole-records bodies [] l h w = w
+whole-records bodies (s ∷ L) l h w = (w .0, w .1, w .2, w .3 ∙ ap (behind bodies) (h .0), whole-records bodies L (w .1) (h .1) (w .4))
+
+records-whole : (bodies : Bool) (L : List Placed) (l : List ℕ) → Bodied L → Records bodies (kinds L) l → Whole bodies L l
+records-whole bodies [] l h w = w
+records-whole bodies (s ∷ L) l h w = (w .0, w .1, w .2, w .3 ∙ ap (behind bodies) (sym (h .0)), records-whole bodies L (w .1) (h .1) (w .4))
+
+-- in a signature the bytes left do not matter
+any-left : {before : List ℕ} {k left r : ℕ} → Condition false before k left r → Condition false before k 0 r
+any-left (unknown e x) = unknown e x
+any-left (misplaced e x) = misplaced e x
+any-left (full e x y) = full e x y
+any-left (cut e x y) = clash x
+any-left (beyond e x y) = beyond e x y
+
+module _ (d : Device) where
+  pub walk-bodied : {st last : State} {ks : List ℕ} {L : List Placed} → Walk (O32 d) (O32-laws d) st ks L last → Bodied L
+  walk-bodied end = tt
+  walk-bodied (one {st = st} {st′ = st′} {k = k} {j = j} {p = p} e f w) = (ap (λ (q : Placement). q .kind .size) (step-says d st k j p st′ e .at), walk-bodied w)
+
+  -- none of its kinds is refused
+  none-refused : {ks : List ℕ} {L : List Placed} {last : State} → Walk (O32 d) (O32-laws d) start ks L last → (a : KindIn ks) (r : ℕ) → Condition false (a .before) (a .kind) 0 r → ⊥
+  none-refused {ks} {L} {last} w a r h =
+      let v : WalkTo (O32 d) (O32-laws d) start (a .before) (a .kind) =
+      walk-to (O32 d) (O32-laws d) (a .before) (a .kind) (a .behind) (subst (λ (x : List ℕ). Walk (O32 d) (O32-laws d) start x L last) (sym (a .here)) w) in
+      let t : taken (O32 d) false 0 (v .reached) (a .kind) ≡ next (v .number) (v .place) (v .onward) = rw (v .stepped, v .fitting) in
+      subst (Judged d (v .before) (a .kind) false 0) t (judged d (v .before) (a .kind) false 0) r (omega (arith, by-record h)) h
+
+  -- what is planned is accepted
+  pub planned-accepted : (bodies : Bool) (l : List ℕ) (L : List Placed) (last : State) → plan (O32 d) bodies l ≡ good L last → Accepted bodies l (kinds L)
+  planned-accepted bodies l L last e =
+      let w : Walk (O32 d) (O32-laws d) start (kinds L) L last = walk-by-kinds (O32 d) (O32-laws d) bodies l L last e in
+      record {
+        records = whole-records bodies L l (walk-bodied w) (plan-whole (O32 d) (O32-laws d) bodies l L last e);
+        none-refused = none-refused w;
+      }
+
+  -- and what is accepted is planned
+  pub record PlannedAs (bodies : Bool) (l ks : List ℕ) : Type 0 where
+    pub placed : List Placed
+    pub last : State
+    pub planned : plan (O32 d) bodies l ≡ good placed last
+    pub kinds-are : kinds placed ≡ ks
+
+  signature-planned : (ks : List ℕ) → ((a : KindIn ks) (r : ℕ) → Condition false (a .before) (a .kind) 0 r → ⊥) → (q : Plan State) → plan (O32 d) false ks ≡ q → PlannedAs false ks ks
+  signature-planned ks h (good L last) e = record { placed = L; last = last; planned = e; kinds-are = walk-kinds (O32 d) (O32-laws d) (walk-of (O32 d) (O32-laws d) ks start L last 0 e) }
+  signature-planned ks h (bad r place j) e =
+      let s : StopsAt (O32 d) false ks r place j = plan-stops (O32 d) false ks r place j .0 e in
+      let w : Walk (O32 d) (O32-laws d) start (take place ks) (s .before) (s .last) = walk-of (O32 d) (O32-laws d) (take place ks) start (s .before) (s .last) 0 (s .accepted) in
+      let v = refused-first d w (getD ks place 0) false (length ks - (place + 1)) r j .0 (s .refusal) in
+      let a : KindIn ks = record {
+        before = take place ks;
+        kind = getD ks place 0;
+        behind = drop (suc place) ks;
+        here = ap (λ (x : List ℕ). take place ks ++ x) (sym (drop-cons ks place 0 (s .inside))) ∙ take-append-drop place ks;
+      } in
+      absurd (h a r (any-left (v .0)))
+
+  pub accepted-planned : (bodies : Bool) (l ks : List ℕ) → Accepted bodies l ks → PlannedAs bodies l ks
+  accepted-planned bodies l ks a =
+      let s : PlannedAs false ks ks = signature-planned ks (a .none-refused) (plan (O32 d) false ks) refl in
+      let w : Walk (O32 d) (O32-laws d) start ks (s .placed) (s .last) = walk-of (O32 d) (O32-laws d) ks start (s .placed) (s .last) 0 (s .planned) in
+      let v : Whole bodies (s .placed) l = records-whole bodies (s .placed) l (walk-bodied w) (subst (λ (x : List ℕ). Records bodies x l) (sym (s .kinds-are)) (a .records)) in
+      record { placed = s .placed; last = s .last; planned = whole-plan (O32 d) (O32-laws d) bodies w l 0 v; kinds-are = s .kinds-are }
+
+-- ---- and one that is refused
 
 module _ (d : Device) (bodies : Bool) (l : List ℕ) where
   -- Refusals 1 to 5 are given exactly on their conditions,
-  pub refused-exactly : (r place j : ℕ) → (plan (O32 d) bodies l ≡ bad r place j) ↔ RefusedAt d bodies l r place j
+  pub refused-exactly : (r place j : ℕ) → (plan (O32 d) bodies l ≡ bad r place j) ↔ RefusedAt bodies l r place j
   refused-exactly r place j = (
     (λ e.
         let s : StopsAt (O32 d) bodies l r place j = plan-stops (O32 d) bodies l r place j .0 e in
@@ -281,15 +365,16 @@ module _ (d : Device) (bodies : Bool) (l : List ℕ) where
         record {
           inside = s .inside;
           before = kinds (s .before);
-          accepted = record { placed = s .before; last = s .last; planned = s .accepted; are = refl };
+          accepted = planned-accepted d bodies (take place l) (s .before) (s .last) (s .accepted);
           holds = v .0;
           first = v .1;
           number = v .2;
         }),
     λ v.
-        let a = v .accepted in
+        let a : PlannedAs d bodies (take place l) (v .before) = accepted-planned d bodies (take place l) (v .before) (v .accepted) in
         let w : Walk (O32 d) (O32-laws d) start (v .before) (a .placed) (a .last) =
-        subst (λ (ks : List ℕ). Walk (O32 d) (O32-laws d) start ks (a .placed) (a .last)) (a .are) (walk-by-kinds (O32 d) (O32-laws d) bodies (take place l) (a .placed) (a .last) (a .planned)) in
+        subst (λ (ks : List ℕ). Walk (O32 d) (O32-laws d) start ks (a .placed) (a .last)) (a .kinds-are)
+        (walk-by-kinds (O32 d) (O32-laws d) bodies (take place l) (a .placed) (a .last) (a .planned)) in
         plan-stops (O32 d) bodies l r place j .1 (record {
           inside = v .inside;
           before = a .placed;
@@ -300,15 +385,15 @@ module _ (d : Device) (bodies : Bool) (l : List ℕ) where
   )
 
   -- and there is none exactly when all records are accepted.
-  pub accepted-exactly : ((ks : List ℕ) × Accepted d bodies l ks) ↔ ((r place j : ℕ) → RefusedAt d bodies l r place j → ⊥)
+  pub accepted-exactly : ((ks : List ℕ) × Accepted bodies l ks) ↔ ((r place j : ℕ) → RefusedAt bodies l r place j → ⊥)
   accepted-exactly = (there, λ h. back (plan (O32 d) bodies l) refl h)
     where
-      there : ((ks : List ℕ) × Accepted d bodies l ks) → (r place j : ℕ) → RefusedAt d bodies l r place j → ⊥
+      there : ((ks : List ℕ) × Accepted bodies l ks) → (r place j : ℕ) → RefusedAt bodies l r place j → ⊥
       there a r place j v =
           let e : plan (O32 d) bodies l ≡ bad r place j = refused-exactly r place j .1 v in
-          let z : _≡_ {A = ℕ} 0 1 = cc (a .1 .planned) in
+          let z : _≡_ {A = ℕ} 0 1 = cc (accepted-planned d bodies l (a .0) (a .1) .planned) in
           omega arith
 
-      back : (q : Plan State) → plan (O32 d) bodies l ≡ q → ((r place j : ℕ) → RefusedAt d bodies l r place j → ⊥) → (ks : List ℕ) × Accepted d bodies l ks
+      back : (q : Plan State) → plan (O32 d) bodies l ≡ q → ((r place j : ℕ) → RefusedAt bodies l r place j → ⊥) → (ks : List ℕ) × Accepted bodies l ks
       back (bad r place j) e h = absurd (h r place j (refused-exactly r place j .0 e))
-      back (good L last) e h = (kinds L, record { placed = L; last = last; planned = e; are = refl })
+      back (good L last) e h = (kinds L, planned-accepted d bodies l L last e)

@@ -13,13 +13,13 @@ use Rattle.o32.specs.Kinds.{kindOf, is}
 use Rattle.o32.specs.Offsets.{extension, width, offset, ending}
 use Rattle.o32.specs.O32.{run, area}
 
--- Rule 2. Where the arguments of these kinds end, the first laid from this end on. A marker is no argument.
+-- Rule 2. Where arguments of these kinds end, if those before them end here. A marker is no argument.
 abbrev pub endOf : ℕ → List ℕ → ℕ
 endOf end [] = end
 endOf end (k ∷ ks) = endOf (cond (is Marker (kindOf k)) end (ending (kindOf k) end)) ks
 
 -- Rule 3. The floating register of a kind behind these: $f12 for a first s or d, $f14 for one that is second, directly behind
--- an s or d, and 0 for every other argument. Without a floating-point unit (request (ii) of document 02) "All arguments go by
+-- an s or d (with a marker between them two kinds stand before it), and 0 for every other argument. Without a floating-point unit (request (ii) of document 02) "All arguments go by
 -- offset".
 abbrev pub registerBehind : Device → List ℕ → ℕ → ℕ
 registerBehind NoFpu before k = 0
@@ -27,42 +27,58 @@ registerBehind Fpu [] k = cond (is Float (kindOf k)) 12 0
 registerBehind Fpu (j ∷ []) k = cond (is Float (kindOf j) && is Float (kindOf k)) 14 0
 registerBehind Fpu (j ∷ i ∷ js) k = 0
 
+-- Rule 2. The offset of a kind behind these.
+abbrev pub offsetBehind : List ℕ → ℕ → ℕ
+offsetBehind before k = offset (kindOf k) (endOf 0 before)
+
 -- Image byte p carries byte i of the argument of kind k behind these kinds.
 pub data Carries (d : Device) (before : List ℕ) (k i p : ℕ) : Type 0 where
   -- "Byte i (from 0) of an argument at offset o is carried by image byte o + i where o + i is below 16,
-  low : (o : ℕ) → registerBehind d before k ≡ 0 → o ≡ offset (kindOf k) (endOf 0 before) → o + i < 16 → p ≡ o + i → Carries d before k i p
+  low : registerBehind d before k ≡ 0 → offsetBehind before k + i < 16 → p ≡ offsetBehind before k + i → Carries d before k i p
   -- else by image byte 32 + o + i.
-  high : (o : ℕ) → registerBehind d before k ≡ 0 → o ≡ offset (kindOf k) (endOf 0 before) → 16 ≤ o + i → p ≡ 32 + (o + i) → Carries d before k i p
+  high : registerBehind d before k ≡ 0 → 16 ≤ offsetBehind before k + i → p ≡ 32 + (offsetBehind before k + i) → Carries d before k i p
   -- An argument of rule 3 has instead the bytes of the register words which that rule names, in its order."
-  single : (f : ℕ) → registerBehind d before k ≡ f → 1 ≤ f → kindOf k .size ≡ 4 → p ≡ 16 + 4 * (f - 12) + i → Carries d before k i p
-  -- of a double, as request (i) of document 02 mends rule 3: the first four bytes in the odd register, the next four in the even one
-  odd : (f : ℕ) → registerBehind d before k ≡ f → 1 ≤ f → kindOf k .size ≡ 8 → i < 4 → p ≡ 16 + 4 * (f + 1 - 12) + i → Carries d before k i p
-  even : (f : ℕ) → registerBehind d before k ≡ f → 1 ≤ f → kindOf k .size ≡ 8 → 4 ≤ i → p ≡ 16 + 4 * (f - 12) + (i - 4) → Carries d before k i p
+  single : 1 ≤ registerBehind d before k → kindOf k .size ≡ 4 → p ≡ 16 + 4 * (registerBehind d before k - 12) + i → Carries d before k i p
+  -- Of a double, as request (i) of document 02 mends rule 3: the first four bytes in the odd register, the next four in the even one.
+  odd : 1 ≤ registerBehind d before k → kindOf k .size ≡ 8 → i < 4 → p ≡ 16 + 4 * (registerBehind d before k + 1 - 12) + i → Carries d before k i p
+  even : 1 ≤ registerBehind d before k → kindOf k .size ≡ 8 → 4 ≤ i → p ≡ 16 + 4 * (registerBehind d before k - 12) + (i - 4) → Carries d before k i p
 
--- The record of this kind is so placed: it has as many carriers as bytes after promotion, and carrier i is the one that carries byte i.
+-- The record of this kind is so placed: its body and its promotion are the kind's, it has as many carriers as bytes after promotion,
+-- and carrier i is the image byte that carries byte i.
 pub record CarriedAt (d : Device) (before : List ℕ) (k : ℕ) (s : Placed) : Type 0 where
   pub size : s .size ≡ kindOf k .size
   pub promotion : s .extension ≡ extension (kindOf k)
   pub long : length (s .carriers) ≡ width (kindOf k)
   pub bytes : (i p : ℕ) → i < width (kindOf k) → (getD (s .carriers) i 0 ≡ p) ↔ Carries d before k i p
 
--- A kind of a signature with the kinds before and behind it.
-pub record Argument (sig : List ℕ) : Type 0 where
+-- A kind in a signature, with the kinds before and behind it: an argument, or the marker.
+pub record KindIn (sig : List ℕ) : Type 0 where
   pub before : List ℕ
   pub kind : ℕ
   pub behind : List ℕ
   pub here : before ++ (kind ∷ behind) ≡ sig
 
--- "An argument's bytes are those of its body after promotion, without fill." (A marker has none.)
+-- Where the arguments before it end, its offset, and its bytes after promotion. (A marker has no bytes, and its offset is 0.)
+module _ {sig : List ℕ} (a : KindIn sig) where
+  abbrev pub endBefore : ℕ
+  endBefore = endOf 0 (a .before)
+
+  abbrev pub offsetOf : ℕ
+  offsetOf = offsetBehind (a .before) (a .kind)
+
+  abbrev pub widthOf : ℕ
+  widthOf = width (kindOf (a .kind))
+
+-- "An argument's bytes are those of its body after promotion, without fill."
 pub record ArgumentByte (sig : List ℕ) : Type 0 where
-  pub argument : Argument sig
+  pub argument : KindIn sig
   pub index : ℕ
-  pub inside : index < width (kindOf (argument .kind))
+  pub inside : index < widthOf argument
 
 abbrev pub CarriedBy : Device → {sig : List ℕ} → ArgumentByte sig → ℕ → Type 0
 CarriedBy d b p = Carries d (b .argument .before) (b .argument .kind) (b .index) p
 
--- "The carried bytes are those that the placement rules give to arguments".
+-- The carried bytes are those that the placement rules give to arguments.
 abbrev pub CarriedByte : Device → List ℕ → ℕ → Type 0
 CarriedByte d sig p = (b : ArgumentByte sig) × CarriedBy d b p
 
