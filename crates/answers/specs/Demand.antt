@@ -36,11 +36,12 @@ functionsOf c = record {
   write = λ list out. resultOf (answerOf (writeInto c list (length out))) (bufferOf (writeInto c list (length out)) out);
 }
 
--- "a signature is accepted when none of the reader's checks on signatures refuses it": whatever the image and the buffer, the reader
--- answers success or a refusal of the image (6, 8) or of the buffer (7).
+-- Success, or a refusal of the image (6, 8) or of the buffer (7).
 abbrev pub PastSignature : ℕ → Type 0
 PastSignature r = (r ≡ 0) ⊎ (r ≡ 6) ⊎ (r ≡ 7) ⊎ (r ≡ 8)
 
+-- "a signature is accepted when none of the reader's checks on signatures refuses it": the reader answers one of these, whatever the
+-- image and the buffer.
 abbrev pub AcceptedSignature : Functions → List ℕ → Type 0
 AcceptedSignature f sig = (img out : List ℕ) → PastSignature (f .read sig img out .refusal)
 
@@ -52,7 +53,7 @@ pub record LentBuffers (m n : ℕ) : Type 0 where
   pub image-long : n ≤ length image
 
 module _ (f : Functions) (sig : List ℕ) {m n : ℕ} where
-  -- An image is accepted for the signature: the reader refuses nothing.
+  -- An image is accepted for the signature: the reader, with a buffer that is long enough, so that 7 cannot hold, answers success.
   abbrev pub Accepts : LentBuffers m n → List ℕ → Type 0
   Accepts u a = f .read sig a (u .list) .refusal ≡ 0
 

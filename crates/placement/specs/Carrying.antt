@@ -18,9 +18,9 @@ abbrev pub endOf : ℕ → List ℕ → ℕ
 endOf end [] = end
 endOf end (k ∷ ks) = endOf (cond (is Marker (kindOf k)) end (ending (kindOf k) end)) ks
 
--- Rule 3. The floating register of a kind behind these: $f12 for a first s or d, $f14 for one that is second, directly behind
--- an s or d (with a marker between them two kinds stand before it), and 0 for every other argument. Without a floating-point unit (request (ii) of document 02) "All arguments go by
--- offset".
+-- Rule 3. The floating register of a kind behind these: $f12 for an s or d with no kind before it, $f14 for an s or d whose only kind
+-- before it is an s or d (a marker between them would be a second kind), and 0 for every other argument. Without a floating-point
+-- unit (request (ii) of document 02) "All arguments go by offset".
 abbrev pub registerBehind : Device → List ℕ → ℕ → ℕ
 registerBehind NoFpu before k = 0
 registerBehind Fpu [] k = cond (is Float (kindOf k)) 12 0
@@ -58,7 +58,8 @@ pub record KindIn (sig : List ℕ) : Type 0 where
   pub behind : List ℕ
   pub here : before ++ (kind ∷ behind) ≡ sig
 
--- Where the arguments before it end, its offset, and its bytes after promotion. (A marker has no bytes, and its offset is 0.)
+-- Where the arguments before it end, its offset, and its bytes after promotion. (A marker has no bytes; the 0 that stands for its
+-- offset is not used.)
 module _ {sig : List ℕ} (a : KindIn sig) where
   abbrev pub endBefore : ℕ
   endBefore = endOf 0 (a .before)

@@ -44,10 +44,9 @@ pub record CarriedBytes (f : Functions) (d : Device) (sig : List ℕ) : Type 0 w
   pub none-shared : (b c : ArgumentByte sig) (p : ℕ) → CarriedBy d b p → CarriedBy d c p
       → (length (b .argument .before) ≡ length (c .argument .before)) × (b .index ≡ c .index)
   pub inside : (p : ℕ) → CarriedByte d sig p → p < imageBytes sig
-  -- "structure fill carries nothing." Nor does any other byte that the rules give to no argument; and each byte of an image is the one
-  -- or the other.
+  -- "structure fill carries nothing." Each byte of an image is carried, or is empty for a named reason, fill among them, and never both.
   pub each-byte : EachByte d sig
-  -- Lists and images are so long; so buffers of 1,057 and of 1,056 bytes are always long enough.
+  -- How long lists and images are: buffers of 1,057 and of 1,056 bytes are always long enough.
   pub lengths : (listBytes sig ≤ 1057) × (48 ≤ imageBytes sig) × (imageBytes sig ≤ 1056)
   -- "An image is accepted for it when none of the reader's refusals but 7 holds": neither 6 nor 8.
   pub accepted-exactly : (u : Buffers sig) (a : List ℕ) → Accepts f sig u a ↔ ((length a ≡ imageBytes sig) × ((b : KindIn sig) → Improper b a → ⊥))

@@ -21,9 +21,9 @@ pub data Empty (d : Device) (sig : List ℕ) (p : ℕ) : Type 0 where
   fill : (a : KindIn sig) (x : ℕ) → offsetOf a + widthOf a ≤ x → x < offsetOf a + up 4 (widthOf a) → p ≡ carrier x → Empty d sig p
   -- it is in a hole: behind the end of the arguments before this one, and before its offset
   hole : (a : KindIn sig) (x : ℕ) → endBefore a ≤ x → x < offsetOf a → p ≡ carrier x → Empty d sig p
-  -- it is at the offset of a float that rule 3 puts in a floating register instead
+  -- it lies where a float would by its offset, and rule 3 puts that float in a floating register
   bypassed : (a : KindIn sig) (x : ℕ) → 1 ≤ registerBehind d (a .before) (a .kind) → offsetOf a ≤ x → x < offsetOf a + widthOf a → p ≡ carrier x → Empty d sig p
-  -- it is in an unused register, or in the area behind the last argument
+  -- it lies behind the last argument: in an unused register, or in the rest of the area
   unused : (x : ℕ) → endOf 0 sig ≤ x → p ≡ carrier x → Empty d sig p
   -- it is in the home of one of `$4` to `$7`
   home : 32 ≤ p → p < 48 → Empty d sig p

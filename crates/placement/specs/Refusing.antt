@@ -31,6 +31,7 @@ abbrev pub argumentBehind : List ℕ → ℕ → ℕ
 argumentBehind before k = cond (is Unknown (kindOf k) || is Marker (kindOf k)) 0 (argumentsIn before + 1)
 
 -- ---- 1 to 5: the conditions at a kind k behind these kinds, with so many bytes left behind it, in a list (true) or a signature
+-- (false)
 
 -- 2, "marker or return pointer misplaced or repeated". "The marker stands at most once, and after at least one argument that is no
 -- return pointer. .. A return pointer stands first or nowhere."
@@ -56,7 +57,7 @@ Records bodies [] l = l ≡ []
 Records bodies (k ∷ ks) l = (body : List ℕ) × (rest : List ℕ) × (l ≡ k ∷ (body ++ rest)) × (length body ≡ behind bodies (kindOf k .size)) × Records bodies ks rest
 
 -- A list (true) or a signature (false) is accepted, and these are its kinds: its records are whole, so 4 holds at none of them, and
--- neither do 1, 2, 3 and 5.
+-- neither do 1, 2, 3 and 5. (These are asked as in a signature, with no bytes left, where 4 cannot hold.)
 pub record Accepted (bodies : Bool) (l ks : List ℕ) : Type 0 where
   pub records : Records bodies ks l
   pub none-refused : (a : KindIn ks) (r : ℕ) → Condition false (a .before) (a .kind) 0 r → ⊥
@@ -109,8 +110,9 @@ pub data ReaderRefuses (sig img : List ℕ) (room r place j : ℕ) : Type 0 wher
 abbrev pub Refuses : Result → ℕ → ℕ → ℕ → Type 0
 Refuses x r place j = (x .refusal ≡ r) × (x .place ≡ place) × (x .argument ≡ j)
 
--- "A refusal returns its number, its place .., length 0 ..; the output buffer keeps its bytes. Success returns 0, place 0 and the exact
--- length. Output bytes beyond it keep their content." With this buffer lent.
+-- What a call with this buffer leaves. "A refusal returns its number, its place .., length 0 ..; the output buffer keeps its bytes.
+-- Success returns 0, place 0 .. Output bytes beyond [the length] keep their content." (Which length is the exact one is said by
+-- `reading-length` and `rewriting-length` of demand 3.)
 pub record KeepsBuffer (out : List ℕ) (x : Result) : Type 0 where
   pub refused : 1 ≤ x .refusal → (x .length ≡ 0) × (x .buffer ≡ out)
   pub accepted : x .refusal ≡ 0 → (x .place ≡ 0) × (x .argument ≡ 0) × (drop (x .length) (x .buffer) ≡ drop (x .length) out)
