@@ -193,7 +193,7 @@ pub fn version() -> u32 {
 /// assert_eq!(refusal, Refusal::BodyCutOff { place: 6, argument: 2 });
 /// assert_eq!(
 ///     refusal.to_string(),
-///     "the list ends within an argument's body at byte 6, argument 2 (refusal 4)"
+///     "the list ends within an argument's body, at byte 6, argument 2 (refusal 4)"
 /// );
 /// assert_eq!(buffer, [0xA5; IMAGE_MAX]);
 /// ```

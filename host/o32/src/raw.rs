@@ -2,6 +2,8 @@
 //!
 //! This is for tools that look at each number, such as a comparison with
 //! another implementation; programs have the functions of the crate itself.
+//! Those here don't check the library's version.
+//!
 //! Each function takes a buffer as a pointer and a length, and none keeps a
 //! pointer after it has returned, so a Rust slice is all that it needs. This is
 //! the only module with `unsafe` code.

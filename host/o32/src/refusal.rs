@@ -162,7 +162,8 @@ impl Refusal {
         }
     }
 
-    /// Offset of the refused kind byte, where the refusal has a place.
+    /// Offset of the refused kind byte, where the refusal has a place. That of
+    /// an unknown refusal is what the library answered.
     pub fn place(&self) -> Option<usize> {
         match *self {
             Refusal::UnknownKind { place }
@@ -201,7 +202,9 @@ impl Refusal {
             Refusal::BeyondLimit { .. } => "the argument ends beyond offset 1,024",
             Refusal::ImageLength => "the image's length is not the one the signature asks for",
             Refusal::ShortOutput => "the output buffer is too short",
-            Refusal::NoPromotion { .. } => "the word is no promoted byte or halfword of its kind",
+            Refusal::NoPromotion { .. } => {
+                "the image's word for this kind is no promoted byte or halfword"
+            }
             Refusal::Masks => {
                 "the general mask names a register outside $16 to $23, $30 and $31, \
                  or the pair mask is above 63"
@@ -223,7 +226,7 @@ impl fmt::Display for Refusal {
     fn fmt(&self, f: &mut fmt::Formatter<'_>) -> fmt::Result {
         write!(f, "{}", self.meaning())?;
         if let Some(place) = self.place() {
-            write!(f, " at byte {place}")?;
+            write!(f, ", at byte {place}")?;
         }
         if let Some(argument) = self.argument() {
             write!(f, ", argument {argument}")?;
@@ -254,7 +257,7 @@ mod tests {
         assert_eq!(refusal.argument(), Some(3));
         assert_eq!(
             refusal.to_string(),
-            "a refusal that this version of the crate does not know \
+            "a refusal that this version of the crate does not know, \
              at byte 7, argument 3 (refusal 28)"
         );
         assert_eq!(Refusal::of(28, 7, 0).argument(), None);

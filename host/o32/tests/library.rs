@@ -40,7 +40,7 @@ fn an_unknown_kind() {
     let refusal = refusal_of_list(&[&WORD[..], &[0x09]].concat());
     assert_eq!(refusal, Refusal::UnknownKind { place: 5 });
     assert_parts(refusal, 1, Some(5), None);
-    assert_eq!(refusal.to_string(), "unknown kind at byte 5 (refusal 1)");
+    assert_eq!(refusal.to_string(), "unknown kind, at byte 5 (refusal 1)");
 }
 
 #[test]
@@ -50,7 +50,7 @@ fn a_misplaced_marker() {
     assert_parts(refusal, 2, Some(0), None);
     assert_eq!(
         refusal.to_string(),
-        "ellipsis marker misplaced or repeated at byte 0 (refusal 2)"
+        "ellipsis marker misplaced or repeated, at byte 0 (refusal 2)"
     );
 }
 
@@ -67,7 +67,7 @@ fn a_misplaced_return_pointer() {
     assert_parts(refusal, 2, Some(6), Some(2));
     assert_eq!(
         refusal.to_string(),
-        "return pointer misplaced or repeated at byte 6, argument 2 (refusal 2)"
+        "return pointer misplaced or repeated, at byte 6, argument 2 (refusal 2)"
     );
 }
 
@@ -144,6 +144,11 @@ fn a_word_that_is_no_promotion() {
         }
     );
     assert_parts(refusal, 8, Some(2), Some(2));
+    assert_eq!(
+        refusal.to_string(),
+        "the image's word for this kind is no promoted byte or halfword, \
+         at byte 2, argument 2 (refusal 8)"
+    );
 }
 
 #[test]
