@@ -38,7 +38,7 @@
  * function here. A program must not go on where they differ: it would take one
  * number of an answer for another, such as the argument for the length.
  * host/c/example.c compares them first of all. A library from before version 1
- * has no o32_version, so it doesn't link.
+ * has no o32_version, so a program that asks for it doesn't link.
  *
  * All numbers in lists, images and code are big-endian. Kinds are written in
  * hexadecimal here.
