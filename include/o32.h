@@ -1,7 +1,7 @@
 /*
  * o32.h - call images and frames of the MIPS O32 calling convention.
  *
- * Five functions:
+ * Five functions do the work:
  *
  *   o32_write     turns a list of arguments into a call image: the contents
  *                 of the argument registers and of the stack's argument area
@@ -14,17 +14,31 @@
  * BUFFERS. Every buffer belongs to the caller: the functions allocate nothing,
  * keep no pointer after they have returned, and have no state. A buffer is a
  * pointer and its length in bytes; a buffer of length 0 may be a null pointer.
- * Inputs are only read. An output buffer must not overlap another buffer of
- * the same call, and needs no content and no alignment beforehand. On success
- * exactly the answered length is written, from the start of the buffer, and
- * bytes beyond it keep their content. On a refusal no byte of it changes.
- * The functions may be called from several threads at once.
+ * Inputs are only read. On success exactly the answered length is written, from
+ * the start of the output buffer, and bytes beyond it keep their content. On a
+ * refusal no byte of it changes. The functions may be called from several
+ * threads at once.
+ *
+ * WHAT IS ASKED OF THE CALLER. Each pointer is valid for its length. The output
+ * buffer must not overlap another buffer of the same call. During the call no
+ * other thread uses the output buffer or writes to an input. Nothing else is
+ * asked: any bytes, any lengths and any numbers may be given, and the output
+ * buffer needs no content and no alignment beforehand.
  *
  * ANSWERS. `refusal` is 0 on success, otherwise the number of the refusal (see
  * the tables below). `place` says where, for refusals that have a place, and is
  * 0 otherwise. `argument` says which argument that is, counted from 1, and is 0
  * where there is none. `length` is the number of bytes written, and 0 on a
- * refusal.
+ * refusal. Look at every answer: after a refusal the buffer still holds what it
+ * held before, such as the image of an earlier call, and that would be loaded.
+ * The compiler warns where an answer is ignored.
+ *
+ * VERSIONS. O32_VERSION is the version of this header, o32_version() that of
+ * the library. Both change with every landing that changes a struct or a
+ * function here. A program must not go on where they differ: it would take one
+ * number of an answer for another, such as the argument for the length.
+ * host/c/example.c compares them first of all. A library from before version 1
+ * has no o32_version, so a program that asks for it doesn't link.
  *
  * All numbers in lists, images and code are big-endian. Kinds are written in
  * hexadecimal here.
@@ -32,8 +46,8 @@
  *
  * DEVICES
  *
- * The first parameter of every function is the device, the board that the call
- * or the frame is for:
+ * The first parameter of each of the five is the device, the board that the
+ * call or the frame is for:
  *
  *   0  O32_FPU      it has a floating-point unit
  *   1  O32_NO_FPU   it has none
@@ -179,6 +193,31 @@
 #include <stddef.h>
 #include <stdint.h>
 
+/* The version of this header. The library's must be the same. */
+#define O32_VERSION 1
+
+/*
+ * Makes the compiler warn where an answer is ignored: by the language's own
+ * attribute, which C has from C23 and C++ from C++17 on, or else by that of gcc
+ * and clang. Earlier languages must not see the former, though their compilers
+ * may know it: -pedantic warns of it there.
+ */
+#if defined(__cplusplus)
+#if __cplusplus >= 201703L
+#define O32_NODISCARD [[nodiscard]]
+#endif
+#elif defined(__STDC_VERSION__) && defined(__has_c_attribute)
+#if __STDC_VERSION__ > 201710L && __has_c_attribute(nodiscard)
+#define O32_NODISCARD [[nodiscard]]
+#endif
+#endif
+#if !defined(O32_NODISCARD) && (defined(__GNUC__) || defined(__clang__))
+#define O32_NODISCARD __attribute__((warn_unused_result))
+#endif
+#if !defined(O32_NODISCARD)
+#define O32_NODISCARD
+#endif
+
 #ifdef __cplusplus
 extern "C" {
 #endif
@@ -235,10 +274,14 @@ typedef struct {
     uint32_t locals;   /* offset of the locals */
 } o32_layout;
 
+/* The version of the library: O32_VERSION, if it goes with this header. */
+uint32_t o32_version(void);
+
 /*
  * Writes the image of a list. Refuses 1 to 5 and 7. An image buffer of
  * O32_IMAGE_MAX bytes is always enough.
  */
+O32_NODISCARD
 o32_answer o32_write(uint32_t device,
                      const uint8_t *list, size_t list_len,
                      uint8_t *image, size_t image_len);
@@ -249,12 +292,14 @@ o32_answer o32_write(uint32_t device,
  * that of a larger buffer around it. Refuses 1 to 3 and 5 to 8. A list buffer
  * of O32_LIST_MAX bytes is always enough.
  */
+O32_NODISCARD
 o32_answer o32_read(uint32_t device,
                     const uint8_t *signature, size_t signature_len,
                     const uint8_t *image, size_t image_len,
                     uint8_t *list, size_t list_len);
 
 /* Lays out a frame. Refuses 9 to 12 and 14. */
+O32_NODISCARD
 o32_layout o32_frame(uint32_t device,
                      uint32_t leaf, uint32_t locals, uint32_t outgoing,
                      uint32_t general, uint32_t pairs);
@@ -263,12 +308,14 @@ o32_layout o32_frame(uint32_t device,
  * Writes a frame's prologue as instruction words. `code_len` and the answered
  * length count bytes. Refuses 9 to 14.
  */
+O32_NODISCARD
 o32_answer o32_prologue(uint32_t device,
                         uint32_t leaf, uint32_t locals, uint32_t outgoing,
                         uint32_t general, uint32_t pairs,
                         uint8_t *code, size_t code_len);
 
 /* Writes a frame's epilogue, likewise. */
+O32_NODISCARD
 o32_answer o32_epilogue(uint32_t device,
                         uint32_t leaf, uint32_t locals, uint32_t outgoing,
                         uint32_t general, uint32_t pairs,

@@ -29,7 +29,8 @@ static void check(int holds, const char *what)
 /* A buffer of its own, filled with a byte that no result here consists of. */
 static uint8_t *buffer(size_t length)
 {
-    uint8_t *bytes = malloc(length > 0 ? length : 1);
+    /* C++ asks for the cast. */
+    uint8_t *bytes = (uint8_t *)malloc(length > 0 ? length : 1);
     if (bytes == NULL) {
         fputs("out of memory\n", stderr);
         exit(2);
@@ -349,8 +350,26 @@ static void devices(void)
     no_unit(UINT32_C(0xFFFFFFFF));
 }
 
+/* With another version the numbers of an answer could be misread. */
+static int has_version_of_header(void)
+{
+    uint32_t version = o32_version();
+    if (version != O32_VERSION) {
+        fprintf(stderr,
+                "o32.h has version %d and the library version %" PRIu32
+                ": take both from the same place, and build the library again "
+                "with rt staticlib capi\n",
+                O32_VERSION, version);
+        return 0;
+    }
+    return 1;
+}
+
 int main(void)
 {
+    if (!has_version_of_header()) {
+        return EXIT_FAILURE;
+    }
     call_image();
     empty_buffers();
     refusals();

@@ -72,6 +72,14 @@ fn as_request(leaf: u32, locals: u32, outgoing: u32, general: u32, pairs: u32) -
     }
 }
 
+// The version of this interface, O32_VERSION of include/o32.h. The number rises with every change of a struct or a function here.
+#[no_mangle]
+pub extern "C" fn o32_version() -> u32
+    ensures { λ r. ⌜ r ≡ 1 ⌝ }
+{
+    1
+}
+
 // The call image of a list for a device.
 #[no_mangle]
 pub extern "C" fn o32_write(device: u32, list: &[u8], image: &mut [u8]) -> O32Answer

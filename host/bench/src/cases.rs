@@ -2,6 +2,8 @@
 
 use std::hint::black_box;
 
+use o32::{raw, Device};
+
 use crate::memory;
 
 /// Enough for every image, list and code.
@@ -16,8 +18,8 @@ pub enum Call {
         signature: &'static [u8],
         image: &'static [u8],
     },
-    Prologue(o32::Request),
-    Epilogue(o32::Request),
+    Prologue(raw::Request),
+    Epilogue(raw::Request),
 }
 
 /// A call and its result.
@@ -62,15 +64,12 @@ impl Case {
     pub fn run_o32(&self, buffer: &mut [u8]) -> u32 {
         let buffer = black_box(buffer);
         match &self.call {
-            Call::Write { list } => o32::write(o32::Device::Fpu, black_box(list), buffer),
-            Call::Read { signature, image } => o32::read(
-                o32::Device::Fpu,
-                black_box(signature),
-                black_box(image),
-                buffer,
-            ),
-            Call::Prologue(request) => o32::prologue(o32::Device::Fpu, black_box(*request), buffer),
-            Call::Epilogue(request) => o32::epilogue(o32::Device::Fpu, black_box(*request), buffer),
+            Call::Write { list } => raw::write(Device::Fpu, black_box(list), buffer),
+            Call::Read { signature, image } => {
+                raw::read(Device::Fpu, black_box(signature), black_box(image), buffer)
+            }
+            Call::Prologue(request) => raw::prologue(Device::Fpu, black_box(*request), buffer),
+            Call::Epilogue(request) => raw::epilogue(Device::Fpu, black_box(*request), buffer),
         }
         .length
     }
@@ -110,7 +109,7 @@ impl Case {
     }
 }
 
-fn model_request(request: &o32::Request) -> model::Request {
+fn model_request(request: &raw::Request) -> model::Request {
     model::Request {
         leaf: request.leaf != 0,
         locals: request.locals,
@@ -161,7 +160,7 @@ fn lists() -> Vec<(&'static str, Vec<u8>, Vec<u8>)> {
 }
 
 /// A function that saves everything it may.
-const FULL_FRAME: o32::Request = o32::Request {
+const FULL_FRAME: raw::Request = raw::Request {
     leaf: 0,
     locals: 100,
     outgoing: 32,

@@ -4,7 +4,7 @@ use std::hint::black_box;
 use std::ops::RangeInclusive;
 
 use model::{Answer, Layout};
-use o32::Device;
+use o32::{raw, Device};
 
 use crate::guarded::{Guarded, Noise};
 use crate::rng::Rng;
@@ -119,7 +119,7 @@ impl Comparison {
         let mut output = self.noise.buffer(room);
         let mut expected_output = output.clone();
 
-        let answer = answer_of(o32::write(self.device, input.bytes(), output.bytes_mut()));
+        let answer = answer_of(raw::write(self.device, input.bytes(), output.bytes_mut()));
         // The compiler must not take it for granted that inputs stay.
         black_box(&mut input);
         let expected = model::write(model_device(self.device), list, expected_output.bytes_mut());
@@ -147,7 +147,7 @@ impl Comparison {
         let mut output = self.noise.buffer(room);
         let mut expected_output = output.clone();
 
-        let answer = answer_of(o32::read(
+        let answer = answer_of(raw::read(
             self.device,
             kinds.bytes(),
             input.bytes(),
@@ -185,11 +185,11 @@ impl Comparison {
         let input = self.noise.around(list);
         let kinds = self.noise.around(signature);
         let mut image = self.noise.buffer(carried.len());
-        let written = answer_of(o32::write(self.device, input.bytes(), image.bytes_mut()));
+        let written = answer_of(raw::write(self.device, input.bytes(), image.bytes_mut()));
         let noise = self.noise.buffer(carried.len());
         overwrite_holes(image.bytes_mut(), noise.bytes(), carried);
         let mut reading = self.noise.buffer(list.len());
-        let read = answer_of(o32::read(
+        let read = answer_of(raw::read(
             self.device,
             kinds.bytes(),
             image.bytes(),
@@ -212,8 +212,8 @@ impl Comparison {
     }
 
     /// Compares the layouts of a frame.
-    pub fn frame(&mut self, request: o32::Request) {
-        let layout = layout_of(o32::frame(self.device, request));
+    pub fn frame(&mut self, request: raw::Request) {
+        let layout = layout_of(raw::frame(self.device, request));
         let expected = model::frame(model_device(self.device), model_request(request));
         self.count(expected.refusal, layout == expected, || {
             format!("{request:X?}\n  expected {expected:?}\n  answered {layout:?}")
@@ -221,12 +221,12 @@ impl Comparison {
     }
 
     /// Compares a frame's code for a code buffer of `room` bytes.
-    pub fn code(&mut self, code: Code, request: o32::Request, room: usize) {
+    pub fn code(&mut self, code: Code, request: raw::Request, room: usize) {
         let mut output = self.noise.buffer(room);
         let mut expected_output = output.clone();
         let answer = answer_of(match code {
-            Code::Prologue => o32::prologue(self.device, request, output.bytes_mut()),
-            Code::Epilogue => o32::epilogue(self.device, request, output.bytes_mut()),
+            Code::Prologue => raw::prologue(self.device, request, output.bytes_mut()),
+            Code::Epilogue => raw::epilogue(self.device, request, output.bytes_mut()),
         });
         let expected = model_code(code, self.device, request, expected_output.bytes_mut());
 
@@ -263,7 +263,7 @@ impl Comparison {
 }
 
 /// The model's code for a request to the library.
-pub fn model_code(code: Code, device: Device, request: o32::Request, buffer: &mut [u8]) -> Answer {
+pub fn model_code(code: Code, device: Device, request: raw::Request, buffer: &mut [u8]) -> Answer {
     let device = model_device(device);
     let request = model_request(request);
     match code {
@@ -289,7 +289,7 @@ fn answers_on(device: Device) -> RangeInclusive<usize> {
     }
 }
 
-fn model_request(request: o32::Request) -> model::Request {
+fn model_request(request: raw::Request) -> model::Request {
     model::Request {
         leaf: request.leaf != 0,
         locals: request.locals,
@@ -299,8 +299,8 @@ fn model_request(request: o32::Request) -> model::Request {
     }
 }
 
-fn answer_of(answer: o32::Answer) -> Answer {
-    let o32::Answer {
+fn answer_of(answer: raw::Answer) -> Answer {
+    let raw::Answer {
         refusal,
         place,
         argument,
@@ -314,8 +314,8 @@ fn answer_of(answer: o32::Answer) -> Answer {
     }
 }
 
-fn layout_of(layout: o32::Layout) -> Layout {
-    let o32::Layout {
+fn layout_of(layout: raw::Layout) -> Layout {
+    let raw::Layout {
         refusal,
         place,
         frame,

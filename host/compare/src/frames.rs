@@ -1,6 +1,7 @@
 //! Groups about frames.
 
-use o32::{Device, Request};
+use o32::raw::Request;
+use o32::Device;
 
 use crate::comparison::{model_code, Code, Comparison};
 use crate::lists::LONG;

@@ -1,12 +1,117 @@
-//! Safe calls into the proved library.
+//! Call images and frames of the MIPS O32 calling convention.
 //!
-//! The library is reached through five C functions (`include/o32.h`). Each
-//! takes a buffer as a pointer and a length, and none keeps a pointer after it
-//! has returned, so a Rust slice is all that it needs. This is the only crate
-//! of the workspace with `unsafe` code.
+//! A safe interface to a library whose functions are proved to do what their
+//! contracts say, for every input. [`write()`] turns a list of arguments into a
+//! call image, the contents of the argument registers and of the stack's
+//! argument area at the moment of the call, and [`read()`] reads such an image
+//! back. [`layout`] lays out a routine's stack frame; [`prologue`] and
+//! [`epilogue`] write the instructions that set it up and take it down.
+//!
+//! Any bytes, numbers and buffer lengths may be given: what can't be done is
+//! refused with its [`Refusal`], and then the buffer keeps every byte. On
+//! success nothing of the buffer changes but the bytes that are given back.
+//!
+//! ```
+//! use o32::{Device, Refusal, IMAGE_MAX, LIST_MAX};
+//!
+//! fn main() -> Result<(), Refusal> {
+//!     // The word 9, and a structure of six bytes.
+//!     let list = [0x05, 0, 0, 0, 9, 0x45, 1, 2, 3, 4, 5, 6];
+//!     let mut buffer = [0; IMAGE_MAX];
+//!     let image = o32::write(Device::Fpu, &list, &mut buffer)?;
+//!     assert_eq!(image.len(), 48);
+//!     assert_eq!(image[0..4], [0, 0, 0, 9]); // $4
+//!     assert_eq!(image[4..12], [1, 2, 3, 4, 5, 6, 0, 0]); // $5 and $6
+//!
+//!     let mut buffer = [0; LIST_MAX];
+//!     let reading = o32::read(Device::Fpu, &[0x05, 0x45], image, &mut buffer)?;
+//!     assert_eq!(reading, list);
+//!     Ok(())
+//! }
+//! ```
+//!
+//! # Lists and their kinds
+//!
+//! A list is records end to end. A record is one byte of kind and a body, whose
+//! length the kind fixes. Numbers are big-endian, kinds in hexadecimal here.
+//!
+//! | kind | argument | body bytes | alignment |
+//! |---|---|---:|---:|
+//! | 01 | signed byte | 1 | 4 |
+//! | 02 | unsigned byte | 1 | 4 |
+//! | 03 | signed halfword | 2 | 4 |
+//! | 04 | unsigned halfword | 2 | 4 |
+//! | 05 | word or pointer | 4 | 4 |
+//! | 06 | 64-bit integer | 8 | 8 |
+//! | 07 | single-precision float, as its bits | 4 | 4 |
+//! | 08 | double-precision float, as its bits | 8 | 8 |
+//! | 0A | ellipsis marker, which is no argument | 0 | |
+//! | 0B | pointer for a returned structure | 4 | 4 |
+//! | 40 to 7F | structure of kind - 3F bytes | 1 to 64 | 4 |
+//! | 80 to BF | structure of 64 + 4 x (kind - 7F) bytes | 68 to 320 | 4 |
+//! | C0 to FF | structure of 8 x (kind - BF) bytes | 8 to 512 | 8 |
+//!
+//! Every other kind is unknown. A list may be empty and has at most 32
+//! arguments; a return pointer counts as one, the marker doesn't. A return
+//! pointer stands first or not at all. The marker stands at most once, behind
+//! at least one argument that is no return pointer, and may come last. A
+//! signature is the kind bytes of a list alone, in order.
+//!
+//! # Images
+//!
+//! Bytes 0 to 15 of an image are `$4` to `$7`, bytes 16 to 31 `$f12` to `$f15`,
+//! and from byte 32 on lies the argument area, whose first 16 bytes are the
+//! homes of `$4` to `$7`. The C header, `include/o32.h`, says which argument
+//! goes where.
+//!
+//! # Refusals
+//!
+//! [`Refusal`] has the table of all refusals, with their numbers and order.
+//!
+//! # Building
+//!
+//! The crate links the static library `libcapi.a`, for x86_64, which `rt
+//! staticlib capi` builds at the root of this repository. The environment
+//! variable `O32_LIB_DIR` names another directory for it: an absolute one, or
+//! one relative to the Cargo workspace that this crate is a member of (`host`
+//! in its repository), wherever cargo was started. `[env]` in the configuration
+//! of cargo can make it relative to another project.
+//!
+//! The crate needs no standard library. The static library calls `memmove` and
+//! `memset` and nothing else.
+//!
+//! # Panics
+//!
+//! The functions of the crate panic if the library that was linked is of
+//! another [`VERSION`], and otherwise never.
+#![no_std]
 
-/// The board that a call or a frame is for, as the C functions take it.
-#[derive(Clone, Copy, Debug, PartialEq, Eq)]
+#[cfg(test)]
+extern crate std;
+
+pub mod raw;
+mod refusal;
+
+pub use refusal::Refusal;
+
+/// The version of the library's interface that this crate is written for, as
+/// `O32_VERSION` in C.
+pub const VERSION: u32 = 1;
+
+/// Bytes of the longest list that is accepted.
+pub const LIST_MAX: usize = 1057;
+
+/// Bytes of the longest image.
+pub const IMAGE_MAX: usize = 1056;
+
+/// Bytes of the longest prologue.
+pub const PROLOGUE_MAX: usize = 92;
+
+/// Bytes of the longest epilogue.
+pub const EPILOGUE_MAX: usize = 96;
+
+/// The board that a call or a frame is for.
+#[derive(Clone, Copy, Debug, PartialEq, Eq, Hash)]
 pub enum Device {
     /// It has a floating-point unit.
     Fpu = 0,
@@ -14,31 +119,50 @@ pub enum Device {
     NoFpu = 1,
 }
 
-/// What a writer, a reader or a code writer answers.
+/// The frame that a routine asks for.
 ///
-/// `refusal` is 0 on success. `place` is the offset of the refused kind byte,
-/// or 0. `argument` is the number of the refused argument, from 1, or 0.
-/// `length` counts the bytes written and is 0 on a refusal.
-#[repr(C)]
-#[derive(Clone, Copy, Debug, Default, PartialEq, Eq)]
-pub struct Answer {
-    pub refusal: u32,
-    pub place: u32,
-    pub argument: u32,
-    pub length: u32,
+/// Any numbers may stand here; [`layout`] says which are refused. The default
+/// is a routine that calls others and saves nothing, and that is refused.
+#[derive(Clone, Copy, Debug, Default, PartialEq, Eq, Hash)]
+pub struct Request {
+    /// The routine calls no other.
+    pub leaf: bool,
+    /// Bytes of locals, at most 16,384.
+    pub locals: u32,
+    /// Most bytes of arguments that it passes to a routine it calls, at most
+    /// 1,024; 0 in a leaf.
+    pub outgoing: u32,
+    /// General registers to save: bit k is `$k`, of `$16` to `$23`, `$30` and
+    /// `$31`. A routine that is no leaf must save `$31`.
+    pub general: u32,
+    /// Floating pairs to save: bit k, from 0 to 5, is `$f20`+2k and the next; 0
+    /// on a device without a floating-point unit.
+    pub pairs: u32,
 }
 
-/// A frame's size and the offsets of its areas from `$sp`.
+impl From<Request> for raw::Request {
+    fn from(request: Request) -> Self {
+        raw::Request {
+            leaf: request.leaf.into(),
+            locals: request.locals,
+            outgoing: request.outgoing,
+            general: request.general,
+            pairs: request.pairs,
+        }
+    }
+}
+
+/// A frame's size and where its areas lie, from `$sp` upward.
 ///
-/// All zero on a refusal but for `refusal` itself.
-#[repr(C)]
-#[derive(Clone, Copy, Debug, Default, PartialEq, Eq)]
+/// The argument build area lies at offset 0, and the floating save area, the
+/// general save area and the locals follow. The offset of an empty area is the
+/// end of the area below.
+#[non_exhaustive]
+#[derive(Clone, Copy, Debug, PartialEq, Eq, Hash)]
 pub struct Layout {
-    pub refusal: u32,
-    pub place: u32,
-    /// Size of the frame.
+    /// Bytes of the frame.
     pub frame: u32,
-    /// Size of the argument build area, which lies at offset 0.
+    /// Bytes of the argument build area.
     pub build: u32,
     /// Offset of the floating save area.
     pub floating: u32,
@@ -48,170 +172,190 @@ pub struct Layout {
     pub locals: u32,
 }
 
-/// The frame that a function asks for.
-#[derive(Clone, Copy, Debug, Default, PartialEq, Eq)]
-pub struct Request {
-    /// 0 is no, anything else yes, as the C functions take it.
-    pub leaf: u32,
-    /// Bytes of locals.
-    pub locals: u32,
-    /// Bytes of outgoing arguments.
-    pub outgoing: u32,
-    /// General registers to save: bit k is `$k`.
-    pub general: u32,
-    /// Floating pairs to save: bit k is `$f20`+2k and the next.
-    pub pairs: u32,
+/// The version of the library that was linked. Where it isn't [`VERSION`], the
+/// other functions panic.
+#[inline]
+pub fn version() -> u32 {
+    raw::version()
 }
 
-mod capi {
-    use super::{Answer, Layout};
+/// Writes the call image of a list to the start of `image`, and gives it back.
+///
+/// A buffer of [`IMAGE_MAX`] bytes is always enough. Refuses 1 to 5 and 7.
+///
+/// ```
+/// use o32::{Device, Refusal, IMAGE_MAX};
+///
+/// // A word, a marker, and a word that is cut off.
+/// let list = [0x05, 0, 0, 0, 9, 0x0A, 0x05, 0, 0];
+/// let mut buffer = [0xA5; IMAGE_MAX];
+/// let refusal = o32::write(Device::Fpu, &list, &mut buffer).unwrap_err();
+/// assert_eq!(refusal, Refusal::BodyCutOff { place: 6, argument: 2 });
+/// assert_eq!(
+///     refusal.to_string(),
+///     "the list ends within an argument's body, at byte 6, argument 2 (refusal 4)"
+/// );
+/// assert_eq!(buffer, [0xA5; IMAGE_MAX]);
+/// ```
+#[inline]
+pub fn write<'a>(device: Device, list: &[u8], image: &'a mut [u8]) -> Result<&'a [u8], Refusal> {
+    check_version();
+    let length = length_of(raw::write(device, list, image))?;
+    Ok(&image[..length])
+}
 
-    extern "C" {
-        pub fn o32_write(
-            device: u32,
-            list: *const u8,
-            list_len: usize,
-            image: *mut u8,
-            image_len: usize,
-        ) -> Answer;
+/// Writes the list that an image reads as under a signature to the start of
+/// `list`, and gives it back.
+///
+/// A buffer of [`LIST_MAX`] bytes is always enough. `image` has the image's
+/// exact length. Refuses 1 to 3 and 5 to 8.
+///
+/// ```
+/// use o32::{Device, Refusal};
+///
+/// // No promotion of a signed byte gives 00000080.
+/// let mut image = [0; 48];
+/// image[3] = 0x80;
+/// assert_eq!(
+///     o32::read(Device::Fpu, &[0x01], &image, &mut [0; 2]),
+///     Err(Refusal::NoPromotion { place: 0, argument: 1 })
+/// );
+/// // But that of an unsigned one.
+/// assert_eq!(
+///     o32::read(Device::Fpu, &[0x02], &image, &mut [0; 2]),
+///     Ok(&[0x02, 0x80][..])
+/// );
+/// ```
+#[inline]
+pub fn read<'a>(
+    device: Device,
+    signature: &[u8],
+    image: &[u8],
+    list: &'a mut [u8],
+) -> Result<&'a [u8], Refusal> {
+    check_version();
+    let length = length_of(raw::read(device, signature, image, list))?;
+    Ok(&list[..length])
+}
 
-        pub fn o32_read(
-            device: u32,
-            signature: *const u8,
-            signature_len: usize,
-            image: *const u8,
-            image_len: usize,
-            list: *mut u8,
-            list_len: usize,
-        ) -> Answer;
-
-        pub fn o32_frame(
-            device: u32,
-            leaf: u32,
-            locals: u32,
-            outgoing: u32,
-            general: u32,
-            pairs: u32,
-        ) -> Layout;
-
-        pub fn o32_prologue(
-            device: u32,
-            leaf: u32,
-            locals: u32,
-            outgoing: u32,
-            general: u32,
-            pairs: u32,
-            code: *mut u8,
-            code_len: usize,
-        ) -> Answer;
-
-        pub fn o32_epilogue(
-            device: u32,
-            leaf: u32,
-            locals: u32,
-            outgoing: u32,
-            general: u32,
-            pairs: u32,
-            code: *mut u8,
-            code_len: usize,
-        ) -> Answer;
+/// Lays out a frame. Refuses 9 to 12 and 14.
+///
+/// ```
+/// use o32::{Device, Refusal, Request};
+///
+/// let request = Request { leaf: true, pairs: 0b1, ..Request::default() };
+/// let layout = o32::layout(Device::Fpu, request)?;
+/// assert_eq!((layout.frame, layout.floating, layout.general), (8, 0, 8));
+/// assert_eq!(
+///     o32::layout(Device::NoFpu, request),
+///     Err(Refusal::PairsWithoutUnit)
+/// );
+/// # Ok::<(), Refusal>(())
+/// ```
+#[inline]
+pub fn layout(device: Device, request: Request) -> Result<Layout, Refusal> {
+    check_version();
+    let layout = raw::frame(device, request.into());
+    match layout.refusal {
+        0 => Ok(Layout {
+            frame: layout.frame,
+            build: layout.build,
+            floating: layout.floating,
+            general: layout.general,
+            locals: layout.locals,
+        }),
+        number => Err(Refusal::of(number, layout.place, 0)),
     }
 }
 
-/// Turns an argument list into a call image at the start of `image`.
+/// Writes a frame's prologue to the start of `code`, and gives it back.
+///
+/// Instructions are big-endian words. A buffer of [`PROLOGUE_MAX`] bytes is
+/// always enough. Refuses 9 to 14.
+///
+/// ```
+/// use o32::{Device, Request, EPILOGUE_MAX, PROLOGUE_MAX};
+///
+/// fn main() -> Result<(), Box<dyn std::error::Error>> {
+///     // A routine that calls others, saves $16 and has one word of locals.
+///     let request = Request {
+///         leaf: false,
+///         locals: 4,
+///         general: 1 << 16 | 1 << 31,
+///         ..Request::default()
+///     };
+///     let mut buffer = [0; PROLOGUE_MAX];
+///     let prologue = o32::prologue(Device::Fpu, request, &mut buffer)?;
+///     assert_eq!(
+///         prologue,
+///         [
+///             0x27, 0xBD, 0xFF, 0xE0, // addiu $sp,$sp,-32
+///             0xAF, 0xB0, 0x00, 0x10, // sw $16,16($sp)
+///             0xAF, 0xBF, 0x00, 0x14, // sw $31,20($sp)
+///         ]
+///     );
+///
+///     let mut buffer = [0; EPILOGUE_MAX];
+///     let epilogue = o32::epilogue(Device::Fpu, request, &mut buffer)?;
+///     assert_eq!(
+///         epilogue,
+///         [
+///             0x8F, 0xB0, 0x00, 0x10, // lw $16,16($sp)
+///             0x8F, 0xBF, 0x00, 0x14, // lw $31,20($sp)
+///             0x03, 0xE0, 0x00, 0x08, // jr $31
+///             0x27, 0xBD, 0x00, 0x20, // addiu $sp,$sp,32, in the delay slot
+///         ]
+///     );
+///     Ok(())
+/// }
+/// ```
 #[inline]
-pub fn write(device: Device, list: &[u8], image: &mut [u8]) -> Answer {
-    // SAFETY: both pointers are valid for the lengths that go with them, the
-    // one for reads and the other for writes, and the borrows keep them apart.
-    unsafe {
-        capi::o32_write(
-            device as u32,
-            list.as_ptr(),
-            list.len(),
-            image.as_mut_ptr(),
-            image.len(),
-        )
-    }
+pub fn prologue(device: Device, request: Request, code: &mut [u8]) -> Result<&[u8], Refusal> {
+    check_version();
+    let length = length_of(raw::prologue(device, request.into(), code))?;
+    Ok(&code[..length])
 }
 
-/// Reads a call image back under a signature, as a list at the start of `list`.
+/// Writes a frame's epilogue to the start of `code`, and gives it back.
+///
+/// Instructions are big-endian words. A buffer of [`EPILOGUE_MAX`] bytes is
+/// always enough. Refuses 9 to 14.
+///
+/// ```
+/// use o32::{Device, Request, EPILOGUE_MAX};
+///
+/// // A leaf without a frame just returns.
+/// let request = Request { leaf: true, ..Request::default() };
+/// let mut buffer = [0; EPILOGUE_MAX];
+/// assert_eq!(
+///     o32::epilogue(Device::NoFpu, request, &mut buffer)?,
+///     [0x03, 0xE0, 0x00, 0x08, 0, 0, 0, 0]
+/// );
+/// # Ok::<(), o32::Refusal>(())
+/// ```
 #[inline]
-pub fn read(device: Device, signature: &[u8], image: &[u8], list: &mut [u8]) -> Answer {
-    // SAFETY: as for `write`; signature and image are only read, so it does no
-    // harm if they overlap.
-    unsafe {
-        capi::o32_read(
-            device as u32,
-            signature.as_ptr(),
-            signature.len(),
-            image.as_ptr(),
-            image.len(),
-            list.as_mut_ptr(),
-            list.len(),
-        )
-    }
+pub fn epilogue(device: Device, request: Request, code: &mut [u8]) -> Result<&[u8], Refusal> {
+    check_version();
+    let length = length_of(raw::epilogue(device, request.into(), code))?;
+    Ok(&code[..length])
 }
 
-/// Lays out a frame.
+/// The structs of another version have other numbers, or the same in another
+/// order: a refusal could then pass for a success, or a place for a length.
 #[inline]
-pub fn frame(device: Device, request: Request) -> Layout {
-    let Request {
-        leaf,
-        locals,
-        outgoing,
-        general,
-        pairs,
-    } = request;
-    // SAFETY: only numbers cross the boundary, and any number may.
-    unsafe { capi::o32_frame(device as u32, leaf, locals, outgoing, general, pairs) }
+fn check_version() {
+    let linked = version();
+    assert!(
+        linked == VERSION,
+        "this crate is for version {VERSION} of the proved library, and version {linked} is linked"
+    );
 }
 
-/// Writes a frame's prologue to the start of `code`.
+/// Bytes written, or why none were.
 #[inline]
-pub fn prologue(device: Device, request: Request, code: &mut [u8]) -> Answer {
-    let Request {
-        leaf,
-        locals,
-        outgoing,
-        general,
-        pairs,
-    } = request;
-    // SAFETY: the pointer is valid for writes of the length that goes with it.
-    unsafe {
-        capi::o32_prologue(
-            device as u32,
-            leaf,
-            locals,
-            outgoing,
-            general,
-            pairs,
-            code.as_mut_ptr(),
-            code.len(),
-        )
-    }
-}
-
-/// Writes a frame's epilogue to the start of `code`.
-#[inline]
-pub fn epilogue(device: Device, request: Request, code: &mut [u8]) -> Answer {
-    let Request {
-        leaf,
-        locals,
-        outgoing,
-        general,
-        pairs,
-    } = request;
-    // SAFETY: as for `prologue`.
-    unsafe {
-        capi::o32_epilogue(
-            device as u32,
-            leaf,
-            locals,
-            outgoing,
-            general,
-            pairs,
-            code.as_mut_ptr(),
-            code.len(),
-        )
+fn length_of(answer: raw::Answer) -> Result<usize, Refusal> {
+    match answer.refusal {
+        0 => Ok(answer.length as usize),
+        number => Err(Refusal::of(number, answer.place, answer.argument)),
     }
 }

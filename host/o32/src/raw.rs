@@ -1,0 +1,227 @@
+//! The C functions as they are, with every number of their answers.
+//!
+//! This is for tools that look at each number, such as a comparison with
+//! another implementation; programs have the functions of the crate itself.
+//! Those here don't check the library's version.
+//!
+//! Each function takes a buffer as a pointer and a length, and none keeps a
+//! pointer after it has returned, so a Rust slice is all that it needs. This is
+//! the only module with `unsafe` code.
+#![allow(unsafe_code)]
+
+use crate::Device;
+
+/// What a writer, a reader or a code writer answers.
+#[must_use = "the buffer has no result if this is a refusal"]
+#[repr(C)]
+#[derive(Clone, Copy, Debug, Default, PartialEq, Eq)]
+pub struct Answer {
+    /// 0 on success, otherwise the number of the refusal.
+    pub refusal: u32,
+    /// Offset of the refused kind byte, 0 where the refusal has no place.
+    pub place: u32,
+    /// Number of the refused argument, from 1; 0 where the refusal has none.
+    pub argument: u32,
+    /// Bytes written, 0 on a refusal.
+    pub length: u32,
+}
+
+/// A frame's size and the offsets of its areas from `$sp`.
+///
+/// All zero on a refusal but for `refusal` itself.
+#[must_use = "there is no frame if this is a refusal"]
+#[repr(C)]
+#[derive(Clone, Copy, Debug, Default, PartialEq, Eq)]
+pub struct Layout {
+    /// 0 on success, otherwise the number of the refusal.
+    pub refusal: u32,
+    /// Always 0.
+    pub place: u32,
+    /// Size of the frame.
+    pub frame: u32,
+    /// Size of the argument build area, which lies at offset 0.
+    pub build: u32,
+    /// Offset of the floating save area.
+    pub floating: u32,
+    /// Offset of the general save area.
+    pub general: u32,
+    /// Offset of the locals.
+    pub locals: u32,
+}
+
+/// The frame that a function asks for, in the numbers of the C functions.
+#[derive(Clone, Copy, Debug, Default, PartialEq, Eq)]
+pub struct Request {
+    /// 0 is no, anything else yes.
+    pub leaf: u32,
+    /// Bytes of locals.
+    pub locals: u32,
+    /// Bytes of outgoing arguments.
+    pub outgoing: u32,
+    /// General registers to save: bit k is `$k`.
+    pub general: u32,
+    /// Floating pairs to save: bit k is `$f20`+2k and the next.
+    pub pairs: u32,
+}
+
+mod capi {
+    use super::{Answer, Layout};
+
+    extern "C" {
+        pub fn o32_version() -> u32;
+
+        pub fn o32_write(
+            device: u32,
+            list: *const u8,
+            list_len: usize,
+            image: *mut u8,
+            image_len: usize,
+        ) -> Answer;
+
+        pub fn o32_read(
+            device: u32,
+            signature: *const u8,
+            signature_len: usize,
+            image: *const u8,
+            image_len: usize,
+            list: *mut u8,
+            list_len: usize,
+        ) -> Answer;
+
+        pub fn o32_frame(
+            device: u32,
+            leaf: u32,
+            locals: u32,
+            outgoing: u32,
+            general: u32,
+            pairs: u32,
+        ) -> Layout;
+
+        pub fn o32_prologue(
+            device: u32,
+            leaf: u32,
+            locals: u32,
+            outgoing: u32,
+            general: u32,
+            pairs: u32,
+            code: *mut u8,
+            code_len: usize,
+        ) -> Answer;
+
+        pub fn o32_epilogue(
+            device: u32,
+            leaf: u32,
+            locals: u32,
+            outgoing: u32,
+            general: u32,
+            pairs: u32,
+            code: *mut u8,
+            code_len: usize,
+        ) -> Answer;
+    }
+}
+
+/// The version of the library that was linked.
+#[inline]
+pub fn version() -> u32 {
+    // SAFETY: the function takes nothing and has no state.
+    unsafe { capi::o32_version() }
+}
+
+/// Turns an argument list into a call image at the start of `image`.
+#[inline]
+pub fn write(device: Device, list: &[u8], image: &mut [u8]) -> Answer {
+    // SAFETY: both pointers are valid for the lengths that go with them, the
+    // one for reads and the other for writes, and the borrows keep them apart.
+    unsafe {
+        capi::o32_write(
+            device as u32,
+            list.as_ptr(),
+            list.len(),
+            image.as_mut_ptr(),
+            image.len(),
+        )
+    }
+}
+
+/// Reads a call image back under a signature, as a list at the start of `list`.
+#[inline]
+pub fn read(device: Device, signature: &[u8], image: &[u8], list: &mut [u8]) -> Answer {
+    // SAFETY: as for `write`; signature and image are only read, so it does no
+    // harm if they overlap.
+    unsafe {
+        capi::o32_read(
+            device as u32,
+            signature.as_ptr(),
+            signature.len(),
+            image.as_ptr(),
+            image.len(),
+            list.as_mut_ptr(),
+            list.len(),
+        )
+    }
+}
+
+/// Lays out a frame.
+#[inline]
+pub fn frame(device: Device, request: Request) -> Layout {
+    let Request {
+        leaf,
+        locals,
+        outgoing,
+        general,
+        pairs,
+    } = request;
+    // SAFETY: only numbers cross the boundary, and any number may.
+    unsafe { capi::o32_frame(device as u32, leaf, locals, outgoing, general, pairs) }
+}
+
+/// Writes a frame's prologue to the start of `code`.
+#[inline]
+pub fn prologue(device: Device, request: Request, code: &mut [u8]) -> Answer {
+    let Request {
+        leaf,
+        locals,
+        outgoing,
+        general,
+        pairs,
+    } = request;
+    // SAFETY: the pointer is valid for writes of the length that goes with it.
+    unsafe {
+        capi::o32_prologue(
+            device as u32,
+            leaf,
+            locals,
+            outgoing,
+            general,
+            pairs,
+            code.as_mut_ptr(),
+            code.len(),
+        )
+    }
+}
+
+/// Writes a frame's epilogue to the start of `code`.
+#[inline]
+pub fn epilogue(device: Device, request: Request, code: &mut [u8]) -> Answer {
+    let Request {
+        leaf,
+        locals,
+        outgoing,
+        general,
+        pairs,
+    } = request;
+    // SAFETY: as for `prologue`.
+    unsafe {
+        capi::o32_epilogue(
+            device as u32,
+            leaf,
+            locals,
+            outgoing,
+            general,
+            pairs,
+            code.as_mut_ptr(),
+            code.len(),
+        )
+    }
+}

@@ -1,0 +1,293 @@
+//! The crate with the library: every refusal by its name, and the sizes of
+//! buffers that are always enough.
+
+use o32::{Device, Refusal, Request, EPILOGUE_MAX, IMAGE_MAX, LIST_MAX, PROLOGUE_MAX};
+
+/// `$16` to `$23`, `$30` and `$31`.
+const ALL_REGISTERS: u32 = 0xC0FF_0000;
+const RETURN_ADDRESS: u32 = 1 << 31;
+const WORD: [u8; 5] = [0x05, 0, 0, 0, 9];
+
+#[test]
+fn the_library_has_the_version_of_the_crate() {
+    assert_eq!(o32::version(), o32::VERSION);
+}
+
+/// How a list is refused with every byte of room that an image may need.
+fn refusal_of_list(list: &[u8]) -> Refusal {
+    o32::write(Device::Fpu, list, &mut [0; IMAGE_MAX]).unwrap_err()
+}
+
+/// How a request is refused with every byte of room that code may need.
+fn refusal_of_request(device: Device, request: Request) -> Refusal {
+    let refusal = o32::layout(device, request).unwrap_err();
+    let mut code = [0; EPILOGUE_MAX];
+    assert_eq!(o32::prologue(device, request, &mut code), Err(refusal));
+    assert_eq!(o32::epilogue(device, request, &mut code), Err(refusal));
+    refusal
+}
+
+#[track_caller]
+fn assert_parts(refusal: Refusal, number: u32, place: Option<usize>, argument: Option<usize>) {
+    assert_eq!(
+        (refusal.number(), refusal.place(), refusal.argument()),
+        (number, place, argument)
+    );
+}
+
+#[test]
+fn an_unknown_kind() {
+    let refusal = refusal_of_list(&[&WORD[..], &[0x09]].concat());
+    assert_eq!(refusal, Refusal::UnknownKind { place: 5 });
+    assert_parts(refusal, 1, Some(5), None);
+    assert_eq!(refusal.to_string(), "unknown kind, at byte 5 (refusal 1)");
+}
+
+#[test]
+fn a_misplaced_marker() {
+    let refusal = refusal_of_list(&[0x0A]);
+    assert_eq!(refusal, Refusal::MisplacedMarker { place: 0 });
+    assert_parts(refusal, 2, Some(0), None);
+    assert_eq!(
+        refusal.to_string(),
+        "ellipsis marker misplaced or repeated, at byte 0 (refusal 2)"
+    );
+}
+
+#[test]
+fn a_misplaced_return_pointer() {
+    let refusal = refusal_of_list(&[&WORD[..], &[0x0A, 0x0B, 0, 0, 0, 0]].concat());
+    assert_eq!(
+        refusal,
+        Refusal::MisplacedReturnPointer {
+            place: 6,
+            argument: 2
+        }
+    );
+    assert_parts(refusal, 2, Some(6), Some(2));
+    assert_eq!(
+        refusal.to_string(),
+        "return pointer misplaced or repeated, at byte 6, argument 2 (refusal 2)"
+    );
+}
+
+#[test]
+fn too_many_arguments() {
+    let refusal = refusal_of_list(&WORD.repeat(33));
+    assert_eq!(
+        refusal,
+        Refusal::TooManyArguments {
+            place: 160,
+            argument: 33
+        }
+    );
+    assert_parts(refusal, 3, Some(160), Some(33));
+}
+
+#[test]
+fn a_body_that_is_cut_off() {
+    let refusal = refusal_of_list(&[0x05, 0]);
+    assert_eq!(
+        refusal,
+        Refusal::BodyCutOff {
+            place: 0,
+            argument: 1
+        }
+    );
+    assert_parts(refusal, 4, Some(0), Some(1));
+}
+
+#[test]
+fn an_argument_beyond_the_limit() {
+    let mut list = vec![0xFF; 1 + 512];
+    list.extend_from_within(..);
+    list.extend(WORD);
+    let refusal = refusal_of_list(&list);
+    assert_eq!(
+        refusal,
+        Refusal::BeyondLimit {
+            place: 1026,
+            argument: 3
+        }
+    );
+    assert_parts(refusal, 5, Some(1026), Some(3));
+}
+
+#[test]
+fn an_image_of_another_length() {
+    let refusal = o32::read(Device::Fpu, &[], &[0; 56], &mut []).unwrap_err();
+    assert_eq!(refusal, Refusal::ImageLength);
+    assert_parts(refusal, 6, None, None);
+    assert_eq!(
+        refusal.to_string(),
+        "the image's length is not the one the signature asks for (refusal 6)"
+    );
+}
+
+#[test]
+fn an_output_buffer_that_is_too_short() {
+    let refusal = o32::write(Device::Fpu, &[], &mut [0; 47]).unwrap_err();
+    assert_eq!(refusal, Refusal::ShortOutput);
+    assert_parts(refusal, 7, None, None);
+}
+
+#[test]
+fn a_word_that_is_no_promotion() {
+    let mut image = [0; 48];
+    image[7] = 0x80;
+    let refusal = o32::read(Device::Fpu, &[0x05, 0x0A, 0x01], &image, &mut [0; 8]).unwrap_err();
+    assert_eq!(
+        refusal,
+        Refusal::NoPromotion {
+            place: 2,
+            argument: 2
+        }
+    );
+    assert_parts(refusal, 8, Some(2), Some(2));
+    assert_eq!(
+        refusal.to_string(),
+        "the image's word for this kind is no promoted byte or halfword, \
+         at byte 2, argument 2 (refusal 8)"
+    );
+}
+
+#[test]
+fn requests_that_are_refused() {
+    let leaf = Request {
+        leaf: true,
+        ..Request::default()
+    };
+    let caller = Request {
+        general: RETURN_ADDRESS,
+        ..Request::default()
+    };
+    let cases = [
+        (9, Refusal::Masks, Request { pairs: 64, ..leaf }),
+        (10, Refusal::ReturnAddressNotSaved, Request::default()),
+        (
+            11,
+            Refusal::Locals,
+            Request {
+                locals: 16_385,
+                ..leaf
+            },
+        ),
+        (
+            12,
+            Refusal::Outgoing,
+            Request {
+                outgoing: 1_025,
+                ..caller
+            },
+        ),
+        (
+            12,
+            Refusal::Outgoing,
+            Request {
+                outgoing: 1,
+                ..leaf
+            },
+        ),
+    ];
+    for (number, refusal, request) in cases {
+        assert_eq!(refusal_of_request(Device::Fpu, request), refusal);
+        assert_parts(refusal, number, None, None);
+    }
+}
+
+#[test]
+fn pairs_without_a_unit() {
+    let request = Request {
+        leaf: true,
+        pairs: 1,
+        ..Request::default()
+    };
+    let refusal = refusal_of_request(Device::NoFpu, request);
+    assert_eq!(refusal, Refusal::PairsWithoutUnit);
+    assert_parts(refusal, 14, None, None);
+    assert!(o32::layout(Device::Fpu, request).is_ok());
+}
+
+/// 32 arguments and a marker, whose bodies fill all 1,024 bytes.
+fn longest_list() -> Vec<u8> {
+    let mut list = vec![0xFF; 1 + 512];
+    list.push(0xF0);
+    list.extend([0xAB; 392]);
+    list.extend(WORD.repeat(30));
+    list.push(0x0A);
+    list
+}
+
+fn signature_of_longest() -> Vec<u8> {
+    [&[0xFF, 0xF0][..], &[0x05; 30], &[0x0A]].concat()
+}
+
+#[test]
+fn the_longest_list_fits_and_no_shorter_buffer_does() {
+    let list = longest_list();
+    assert_eq!(list.len(), LIST_MAX);
+    let mut buffer = [0; IMAGE_MAX];
+    let image = o32::write(Device::Fpu, &list, &mut buffer).unwrap();
+    assert_eq!(image.len(), IMAGE_MAX);
+    assert_eq!(
+        o32::write(Device::Fpu, &list, &mut [0; IMAGE_MAX - 1]),
+        Err(Refusal::ShortOutput)
+    );
+
+    let signature = signature_of_longest();
+    assert_eq!(
+        o32::read(Device::Fpu, &signature, image, &mut [0; LIST_MAX]),
+        Ok(&list[..])
+    );
+    assert_eq!(
+        o32::read(Device::Fpu, &signature, image, &mut [0; LIST_MAX - 1]),
+        Err(Refusal::ShortOutput)
+    );
+}
+
+#[test]
+fn the_longest_code_fits_and_no_shorter_buffer_does() {
+    let request = Request {
+        locals: 16_384,
+        outgoing: 1_024,
+        general: ALL_REGISTERS,
+        pairs: 63,
+        ..Request::default()
+    };
+    let mut code = [0; PROLOGUE_MAX];
+    let prologue = o32::prologue(Device::Fpu, request, &mut code).unwrap();
+    assert_eq!(prologue.len(), PROLOGUE_MAX);
+    let short = o32::prologue(Device::Fpu, request, &mut code[1..]).unwrap_err();
+    assert_eq!(short, Refusal::ShortCode);
+    assert_parts(short, 13, None, None);
+
+    let mut code = [0; EPILOGUE_MAX];
+    let epilogue = o32::epilogue(Device::Fpu, request, &mut code).unwrap();
+    assert_eq!(epilogue.len(), EPILOGUE_MAX);
+    assert_eq!(
+        o32::epilogue(Device::Fpu, request, &mut code[1..]),
+        Err(Refusal::ShortCode)
+    );
+}
+
+/// All parts of a layout, and the rest of a buffer.
+#[test]
+fn a_layout_and_the_bytes_behind_a_result() {
+    let request = Request {
+        locals: 4,
+        outgoing: 24,
+        general: 1 << 16 | RETURN_ADDRESS,
+        pairs: 1,
+        ..Request::default()
+    };
+    let layout = o32::layout(Device::Fpu, request).unwrap();
+    assert_eq!((layout.frame, layout.build), (48, 24));
+    assert_eq!(
+        (layout.floating, layout.general, layout.locals),
+        (24, 32, 40)
+    );
+
+    let mut buffer = [0xA5; 50];
+    assert_eq!(o32::write(Device::Fpu, &[], &mut buffer).unwrap(), [0; 48]);
+    assert_eq!(buffer[48..], [0xA5; 2]);
+}
