@@ -34,7 +34,7 @@
  * The compiler warns where an answer is ignored.
  *
  * VERSIONS. O32_VERSION is the version of this header, o32_version() that of
- * the library. Both change with every landing that changes a struct or a
+ * the library. Both change with every release that changes a struct or a
  * function here. A program must not go on where they differ: it would take one
  * number of an answer for another, such as the argument for the length.
  * host/c/example.c compares them first of all. A library from before version 1
@@ -55,6 +55,12 @@
  * Any other number is a device without a floating-point unit too. No device is
  * refused. On a device without a unit no argument goes to a floating register,
  * and a frame can't save one.
+ *
+ * A floating-point unit here is one with 32-bit registers (FR = 0, -mfp32). Ask
+ * how a routine with an ellipsis was compiled: the System V supplement, which
+ * decides here, has a leading float in $f12 there too, while GCC 12 and clang
+ * 14 pass all its arguments in $4 to $7 and on the stack. For a routine from
+ * these compilers name O32_NO_FPU, whatever the board has.
  *
  *
  * LISTS
