@@ -1,6 +1,8 @@
 -- What the program prints for a list ("Bench cases").
+use mathlib.Core.Path.{_≡_}
 use mathlib.Core.List.{List}
 use Prim.Native.Nat.{ℕ}
+use lib.ListN.{take}
 use Rattle.carried.specs.Image as C
 use Rattle.carried.specs.Convention.{write}
 use Rattle.device.specs.declared.Device.the-variants.{Fpu}
@@ -15,3 +17,11 @@ textOf (C.refused number place argument) = refusalText number place argument
 -- The text of a list, for the device with a floating-point unit. (No buffer of a caller is too short here, so 7 is no answer.)
 abbrev pub reportText : List ℕ → List ℕ
 reportText list = textOf (write (O32 Fpu) list)
+
+-- "The program reads at most 2,048 bytes",
+abbrev pub readLimit : ℕ
+readLimit = 2048
+
+-- "a longer list is refused as its first 2,048 bytes are". (No accepted list is so long.)
+abbrev pub ReadLimit : Type 0
+ReadLimit = (list : List ℕ) → reportText (take readLimit list) ≡ reportText list

@@ -28,7 +28,7 @@ returns : tie.Need-returns
 returns c =
     let s = c .before .before .before .before .before .before .before in
     let w = c .before .before .before .before in
-    put-whole (now (s .args .list)) _ (now (s .args .out)) (omega (arith, s .good)) (of-refusal (now (s .args .list)) (w .write .result) (w .write .ensures .0) (c .before .before .if1 .taken)) (c .refusal-text .ensures .0) (c .refusal-text .ensures .1)
+    put-whole (now (s .args .list)) _ (now (s .args .out)) (omega (arith, s .good)) (of-refusal (now (s .args .list)) (w .write .result) (w .write .ensures .0) (λ e. omega arith)) (c .refusal-text .ensures .0) (c .refusal-text .ensures .1)
 
 array-share-prefix-image : tie.Need-array-share-prefix-image
 array-share-prefix-image c = in-image (c .before .before)
