@@ -72,6 +72,10 @@ put-whole list text out room e answer buffer =
     let k : ltb (length out) (length text) ≡ false = le-ltb (length out) (length text) (omega (arith, report-fits list, ap length e)) in
     rw (answer, buffer, e, k) (refl, refl)
 
+-- what `report_text` answers lies within the buffer as it was left
+pub report-within : (list rest : List ℕ) {r : ℕ} {out : List ℕ} → r ≡ length (reportText list) → out ≡ reportText list ++ rest → r ≤ length out
+report-within list rest e g = omega (arith, ap length g, length-append (reportText list) rest)
+
 -- ---- the writer's answer, with a buffer of 1,056 bytes
 
 module _ (list : List ℕ) (a : Answer) (e : a ≡ answerOf (writeInto (O32 Fpu) list 1056)) where

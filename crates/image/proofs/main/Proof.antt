@@ -1,13 +1,11 @@
 -- `main` is safe: what was read and what is printed lie within their buffers.
 -- Assumes nothing.
-use mathlib.Core.Path.{_≡_, sym, ap, subst}
-use mathlib.Core.List.{List, _++_}
-use Prim.Native.Nat.{ℕ, _≤_}
-use native.Mathlib.Omega.{arith}
-use lib.ListN.{length, take, length-append}
+use mathlib.Core.Path.{sym, subst}
+use Prim.Native.Nat.{_≤_}
+use lib.ListN.{length, take}
 use lib.Seq.{length-take-le}
 use borrow.Author.Needs.{needs}
-use Rattle.report.specs.Report.{reportText}
+use Rattle.report.proofs.Fits.{report-within}
 use Rattle.image.specs.declared.Input.{Input}
 use Rattle.image.specs.Input.{Within}
 use Rattle.image.proofs.main.Statement.{statement}
@@ -17,12 +15,11 @@ use Rattle.image.proofs.main.Tie as tie
 in-list : (c : tie.After-input) → c .input .given .0 .0 ≤ length (c .before .before .before .read-list .last .0)
 in-list c = subst (λ (i : Input). Within i (length (c .before .before .before .read-list .last .0))) (c .input .given .1) (c .before .before .before .read-list .ensures)
 
-within : (text rest : List ℕ) {r : ℕ} {out : List ℕ} → r ≡ length text → out ≡ text ++ rest → r ≤ length out
-within text rest e g = omega (arith, ap length g, length-append text rest)
-
 -- Where the text is made: its length lies within the buffer.
 in-out : (c : tie.After-report-text) → c .report-text .result ≤ length (c .report-text .last .1 .0)
-in-out c = let m = c .before .before .before .before in within (reportText (take (m .input .given .0 .0) (m .before .before .before .read-list .last .0))) _ (c .report-text .ensures .0) (c .report-text .ensures .1)
+in-out c =
+    let m = c .before .before .before .before in
+    report-within (take (m .input .given .0 .0) (m .before .before .before .read-list .last .0)) _ (c .report-text .ensures .0) (c .report-text .ensures .1)
 
 slice-aggregate-read-list : tie.Need-slice-aggregate-read-list
 slice-aggregate-read-list c = search needs
