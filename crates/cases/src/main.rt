@@ -7,33 +7,51 @@
 //     read ROOM, SIGNATURE, IMAGE     the list of an image under a signature, in a buffer of ROOM bytes
 //     nwrite, nread                   the same without a floating-point unit
 //     print LIST                      what the program `image` prints for a list
+//     show LENGTH, BYTES              how an answer of LENGTH bytes is shown, in a buffer that starts with BYTES
 //
-// ROOM is a decimal number, at most 4,096. LIST, SIGNATURE and IMAGE are at most 4,096 bytes, each a pair of hex digits, with
+// ROOM and LENGTH are decimal numbers, at most 4,096. LIST, SIGNATURE, IMAGE and BYTES are at most 4,096 bytes, each a pair of hex digits, with
 // spaces between them or none. Behind a pair, *N makes N equal bytes of it, and +N makes N bytes that count up from it. Of the
-// words write, read and print the first letter decides, behind an n the next one. A line that has another form is answered "malformed".
+// words write, read, print and show the first letter decides, behind an n the next one. A line that has another form is answered "malformed".
 // Of the text the first 131,072 bytes are read.
 //
 // The answer is the refusal, or the bytes that were written, 16 to a line; then their number, and whether every other byte of
 // the buffer is kept.
 ghost use Prim.Native.Nat.{_≤_};
 ghost use lib.ListN.{length};
+use answers::Answer;
 use device::Device;
 use libc::STDIN_FILENO;
+use libc::STDOUT_FILENO;
+
+// A text to standard output. Of what is printed the language has nothing to promise.
+fn print(text: &[u8]) {
+    io::write_all(STDOUT_FILENO, text);
+}
+
+// The answer to a line that has another form.
+fn malformed() {
+    print(b"malformed\n");
+}
+
+fn show(answer: Answer, out: &[u8; 4096]) {
+    let mut text = [0u8; 16504];
+    let n = shown::answer_text(answer, out, &mut text);
+    print(&text[..n]);
+}
 
 // The writer, of the list behind a place of a line.
 fn write(device: Device, room: usize, line: &[u8], from: usize) {
     let mut list = io::buffer();
     let n = lines::bytes(line, from, line.len(), &mut list);
     if n > 4096 {
-        return lines::malformed();
+        return malformed();
     }
     if room > 4096 {
-        return lines::malformed();
+        return malformed();
     }
-    let mut out = io::buffer();
-    lines::put(&mut out, 0, 0xA5, 0, 4096);
+    let mut out = [shown::FILL; 4096];
     let answer = call::write(device, &list[..n], &mut out[..room]);
-    lines::show(answer, &out);
+    show(answer, &out);
 }
 
 // The reader, of the signature behind a place of a line and the image behind a comma.
@@ -42,38 +60,51 @@ fn read(device: Device, room: usize, line: &[u8], from: usize)
 {
     let comma = lines::find(line, from, b',');
     if comma >= line.len() {
-        return lines::malformed();
+        return malformed();
     }
     let mut signature = io::buffer();
     let n = lines::bytes(line, from, comma, &mut signature);
     let mut image = io::buffer();
     let m = lines::bytes(line, comma + 1, line.len(), &mut image);
     if n > 4096 {
-        return lines::malformed();
+        return malformed();
     }
     if m > 4096 {
-        return lines::malformed();
+        return malformed();
     }
     if room > 4096 {
-        return lines::malformed();
+        return malformed();
     }
-    let mut out = io::buffer();
-    lines::put(&mut out, 0, 0xA5, 0, 4096);
+    let mut out = [shown::FILL; 4096];
     let answer = call::read(device, &signature[..n], &image[..m], &mut out[..room]);
-    lines::show(answer, &out);
+    show(answer, &out);
 }
 
 // What is printed for the list behind the first space of a line.
-fn print(line: &[u8]) {
+fn print_list(line: &[u8]) {
     let space = lines::find(line, 0, b' ');
     let mut list = io::buffer();
     let n = lines::bytes(line, space, line.len(), &mut list);
     if n > 4096 {
-        return lines::malformed();
+        return malformed();
     }
     let mut out = [0u8; 2376];
     let length = report::report_text(&list[..n], &mut out);
-    lines::print(&out[..length]);
+    print(&out[..length]);
+}
+
+// An answer of so many bytes, in a buffer that starts with the bytes behind a place of a line: where more than these are changed, the
+// answer's last line says so.
+fn show_bytes(length: usize, line: &[u8], from: usize) {
+    let mut out = [shown::FILL; 4096];
+    let n = lines::bytes(line, from, line.len(), &mut out);
+    if n > 4096 {
+        return malformed();
+    }
+    if length > 4096 {
+        return malformed();
+    }
+    show(answers::reply(0, 0, 0, length), &out);
 }
 
 // The letter that decides on a line: the first, or the one behind an n.
@@ -95,11 +126,17 @@ fn run(line: &[u8])
     let room = lines::room(line);
     let word = letter(line);
     match word {
-        b'p' => print(line),
+        b'p' => print_list(line),
         b'r' => read(device, room.value, line, room.end),
+        b's' => show_bytes(room.value, line, room.end),
         b'w' => write(device, room.value, line, room.end),
-        _ => lines::malformed(),
+        _ => malformed(),
     }
+}
+
+fn print_line(line: &[u8]) {
+    print(line);
+    print(b"\n");
 }
 
 fn main() {
@@ -108,6 +145,7 @@ fn main() {
     let mut at = 0;
     while at < n {
         let end = lines::find(&text[..n], at, b'\n');
+        print_line(&text[at..end]);
         if lines::is_case(&text[at..end]) {
             run(&text[at..end]);
         }

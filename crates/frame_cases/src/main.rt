@@ -20,21 +20,44 @@ use libc::STDOUT_FILENO;
 use saves::Layout;
 use saves::Request;
 
+// A text to standard output. Of what is printed the language has nothing to promise.
+fn print(text: &[u8]) {
+    io::write_all(STDOUT_FILENO, text);
+}
+
+// The answer to a line that has another form.
+fn malformed() {
+    print(b"malformed\n");
+}
+
+fn show(answer: Answer, out: &[u8; 4096]) {
+    let mut text = [0u8; 16504];
+    let n = shown::answer_text(answer, out, &mut text);
+    print(&text[..n]);
+}
+
+// A refusal as a line: 23 bytes and the digits of three numbers, at most 20 each.
+fn print_refusal(number: u32, place: usize, argument: usize) {
+    let mut out = [0u8; 83];
+    let n = text::refusal_text(number, place, argument, &mut out);
+    print(&out[..n]);
+}
+
 fn print_number(name: &[u8], n: u32) {
-    lines::print(name);
+    print(name);
     io::print_decimal(STDOUT_FILENO, n as u64);
 }
 
 fn print_layout(layout: Layout) {
     if layout.refusal != 0 || layout.place != 0 {
-        lines::print_refusal(layout.refusal, layout.place as usize, 0);
+        print_refusal(layout.refusal, layout.place as usize, 0);
     }
     print_number(b"F ", layout.frame);
     print_number(b", B ", layout.build);
     print_number(b", floating ", layout.floating);
     print_number(b", general ", layout.general);
     print_number(b", locals ", layout.locals);
-    lines::print(b"\n");
+    print(b"\n");
 }
 
 // The request in five words.
@@ -61,10 +84,9 @@ fn code_of(device: Device, request: Request, back: bool, out: &mut [u8]) -> Answ
 fn show_code(room: usize, device: Device, request: Request, back: bool)
     requires { ⌜ room ≤ 4096 ⌝ }
 {
-    let mut out = io::buffer();
-    lines::put(&mut out, 0, 0xA5, 0, 4096);
+    let mut out = [shown::FILL; 4096];
     let answer = code_of(device, request, back, &mut out[..room]);
-    lines::show(answer, &out);
+    show(answer, &out);
 }
 
 // The frame of a line.
@@ -76,17 +98,22 @@ fn run(line: &[u8])
     let mut words = io::buffer();
     let n = lines::bytes(line, room.end, line.len(), &mut words);
     if n != 20 {
-        return lines::malformed();
+        return malformed();
     }
     if room.value > 4096 {
-        return lines::malformed();
+        return malformed();
     }
     let request = request_in(&words);
     print_layout(frame::layout_of(device, request));
-    lines::print(b"prologue\n");
+    print(b"prologue\n");
     show_code(room.value, device, request, false);
-    lines::print(b"epilogue\n");
+    print(b"epilogue\n");
     show_code(room.value, device, request, true);
+}
+
+fn print_line(line: &[u8]) {
+    print(line);
+    print(b"\n");
 }
 
 fn main() {
@@ -95,6 +122,7 @@ fn main() {
     let mut at = 0;
     while at < n {
         let end = lines::find(&text[..n], at, b'\n');
+        print_line(&text[at..end]);
         if lines::is_case(&text[at..end]) {
             run(&text[at..end]);
         }

@@ -1,14 +1,18 @@
 -- The fewest digits that hold a number are its decimal.
 -- Assumes nothing.
 use mathlib.Core.Path.{_≡_}
+use mathlib.Core.Bool.{Bool, true, false, cond}
+use mathlib.Core.List.{List, [], _∷_, _++_}
 use Prim.Native.Nat.{ℕ, zero, suc, _+_, _-_, _*_, _/_, _%_, _^_, _≤_, _<_}
 use native.Mathlib.Omega.{arith}
 use native.Mathlib.Nat.{pow-suc, pow-le-pow-right, lt-of-not-le, le-of-suc-le-suc}
 use native.Mathlib.Numerals.{sub-one}
+use lib.Dec.{ltb}
+use lib.ListN.{length, length-append}
 use borrow.Author.Tests.{lt-ltb, le-ltb}
 use Rattle.io.specs.Digits.{Fewest, glyph}
 use Rattle.io.specs.Digits as D
-use Rattle.text.specs.Text.{digits, decimal}
+use Rattle.text.specs.Text.{digits, decimal, refusalText}
 
 -- A digit below ten is spelled from 48 on.
 spelled : (d : ℕ) → d < 10 → glyph d ≡ 48 + d
@@ -46,3 +50,23 @@ twenty n k h f = le-of-suc-le-suc (lt-of-not-le (λ p.
     let big : 10 ^ 20 ≤ 10 ^ (k - 1) = pow-le-pow-right {n = 10} (omega arith) {i = 20} {j = k - 1} (omega arith) in
     let low : 10 ^ (k - 1) ≤ n = f .2 (omega arith) in
     omega arith))
+
+-- The same of its text: below 10 ^ k there are at most k digits.
+digits-few : (k most n : ℕ) → n < 10 ^ suc k → length (digits most n) ≤ suc k
+digits-few k zero n h = omega arith
+digits-few zero (suc most) n h = simp (lt-ltb n 10 h) (omega arith)
+digits-few (suc k) (suc most) n h = go (ltb n 10) (digits-few k most (n / 10) (let a : n < 10 ^ suc k * 10 = rw pow-suc at h in omega arith))
+  where
+    go : (t : Bool) → length (digits most (n / 10)) ≤ suc k → length (cond t ((48 + n) ∷ []) (digits most (n / 10) ++ ((48 + n % 10) ∷ []))) ≤ suc (suc k)
+    go true g = omega arith
+    go false g = omega (arith, length-append (digits most (n / 10)) ((48 + n % 10) ∷ []))
+
+pub decimal-few : (n : ℕ) → n < 2 ^ 64 → length (decimal n) ≤ 20
+unfolding decimal
+decimal-few n h = digits-few 19 (suc n) n (omega arith)
+
+-- So a refusal's line has at most 83 bytes.
+pub refusal-few : (number place argument : ℕ) → number < 2 ^ 64 → place < 2 ^ 64 → argument < 2 ^ 64 → length (refusalText number place argument) ≤ 83
+refusal-few number place argument h g f =
+    rw (length-append, length-append, length-append, length-append, length-append, length-append)
+    (omega (arith, decimal-few number h, decimal-few place g, decimal-few argument f))

@@ -29,7 +29,7 @@ pub fn low(b: u8) -> u8
 }
 
 // A text into a buffer from a place on; the place behind it.
-fn put(text: &[u8], out: &mut [u8], at: usize) -> usize
+pub fn put(text: &[u8], out: &mut [u8], at: usize) -> usize
     requires { ⌜ at + length (now text) ≤ length (now out) ⌝ }
     ensures { λ r. ⌜ r ≡ at + length (now (text .entry)) ⌝ }
     ensures { λ _. ⌜ now (out .exit) ≡ paste (now (out .entry)) at (now (text .entry)) (length (now (text .entry))) ⌝ }
@@ -83,7 +83,7 @@ pub fn image_text(image: &[u8], out: &mut [u8]) -> usize
 }
 
 // A text and behind it a number in decimal, of at most 20 digits, into a buffer from a place on; the place behind them.
-fn put_number(text: &[u8], number: u64, out: &mut [u8], at: usize) -> usize
+pub fn put_number(text: &[u8], number: u64, out: &mut [u8], at: usize) -> usize
     requires { ⌜ at + length (now text) + 20 ≤ length (now out) ⌝ }
     ensures { λ r. ⌜ r ≤ at + length (now (text .entry)) + 20 ⌝ }
     ensures { λ r. ⌜ take r (now (out .exit)) ≡ take at (now (out .entry)) ++ now (text .entry) ++ decimal number ⌝ }

@@ -2,97 +2,85 @@
 -- Assumes nothing.
 use mathlib.Core.Path.{sym}
 use native.Mathlib.Omega.{arith}
-use lib.Seq.{length-take-le, length-front}
+use lib.Seq.{length-take-le}
+use borrow.Author.Needs.{needs}
 use Rattle.cases.proofs.read.Statement.{statement}
 use Rattle.cases.proofs.read.Tie as tie
 
 find-requires : tie.Need-find-requires
-find-requires c κs = omega arith
+find-requires c κs = search needs
 
 malformed-requires : tie.Need-malformed-requires
-malformed-requires c κs = tt
+malformed-requires c κs = search needs
 
 returns : tie.Need-returns
-returns c = tt
+returns c = search needs
 
 buffer-requires : tie.Need-buffer-requires
-buffer-requires c κs = tt
+buffer-requires c κs = search needs
 
 slice-aggregate-bytes : tie.Need-slice-aggregate-bytes
-slice-aggregate-bytes c = omega arith
+slice-aggregate-bytes c = search needs
 
 bytes-requires : tie.Need-bytes-requires
-bytes-requires c κs = omega arith
+bytes-requires c κs = search needs
 
 buffer-requires-2 : tie.Need-buffer-requires-2
-buffer-requires-2 c κs = tt
+buffer-requires-2 c κs = search needs
 
 add-bytes : tie.Need-add-bytes
-add-bytes c = omega arith
+add-bytes c = search needs
 
 slice-aggregate-bytes-2 : tie.Need-slice-aggregate-bytes-2
-slice-aggregate-bytes-2 c = omega arith
+slice-aggregate-bytes-2 c = search needs
 
 bytes-requires-2 : tie.Need-bytes-requires-2
-bytes-requires-2 c κs = omega arith
+bytes-requires-2 c κs = search needs
 
 malformed-requires-2 : tie.Need-malformed-requires-2
-malformed-requires-2 c κs = tt
+malformed-requires-2 c κs = search needs
 
 returns-2 : tie.Need-returns-2
-returns-2 c = tt
+returns-2 c = search needs
 
 malformed-requires-3 : tie.Need-malformed-requires-3
-malformed-requires-3 c κs = tt
+malformed-requires-3 c κs = search needs
 
 returns-3 : tie.Need-returns-3
-returns-3 c = tt
+returns-3 c = search needs
 
 malformed-requires-4 : tie.Need-malformed-requires-4
-malformed-requires-4 c κs = tt
+malformed-requires-4 c κs = search needs
 
 returns-4 : tie.Need-returns-4
-returns-4 c = tt
-
-buffer-requires-3 : tie.Need-buffer-requires-3
-buffer-requires-3 c κs = tt
-
-slice-aggregate-put : tie.Need-slice-aggregate-put
-slice-aggregate-put c = omega arith
-
-put-requires : tie.Need-put-requires
-put-requires c κs = omega arith
+returns-4 c = search needs
 
 array-share-prefix-signature : tie.Need-array-share-prefix-signature
-array-share-prefix-signature c = omega arith
+array-share-prefix-signature c = search needs
 
 slice-aggregate-read : tie.Need-slice-aggregate-read
 slice-aggregate-read c = sym (length-take-le _ _ (omega arith))
 
 array-share-prefix-image : tie.Need-array-share-prefix-image
-array-share-prefix-image c = omega arith
+array-share-prefix-image c = search needs
 
 slice-aggregate-read-2 : tie.Need-slice-aggregate-read-2
 slice-aggregate-read-2 c = sym (length-take-le _ _ (omega arith))
 
 array-borrow-prefix-out : tie.Need-array-borrow-prefix-out
-array-borrow-prefix-out c = omega arith
+array-borrow-prefix-out c = search needs
 
 slice-aggregate-read-3 : tie.Need-slice-aggregate-read-3
 slice-aggregate-read-3 c = sym (length-take-le _ _ (omega arith))
 
 read-requires : tie.Need-read-requires
-read-requires c κs = tt
-
-slice-aggregate-show : tie.Need-slice-aggregate-show
-slice-aggregate-show c =
-    omega (arith, c .before .before .before .before .before .before .before .put .kept .0, length-front (c .before .before .before .before .before .before .before .put .last .0) (c .before .before .read .last .1 .1 .1 .0) (c .before .before .before .before .before .before .before .before .before .before .before .before .before .before .before .before .before .before .before .before .before .before .before .before .args .room) (c .before .before .read .kept .1 .1 .1 .0))
+read-requires c κs = search needs
 
 show-requires : tie.Need-show-requires
-show-requires c κs = tt
+show-requires c κs = search needs
 
 returns-5 : tie.Need-returns-5
-returns-5 c = tt
+returns-5 c = search needs
 
 pub read-spec : {M : Type 1} → statement M
 read-spec =
@@ -114,9 +102,6 @@ read-spec =
     returns-3
     malformed-requires-4
     returns-4
-    buffer-requires-3
-    slice-aggregate-put
-    put-requires
     array-share-prefix-signature
     slice-aggregate-read
     array-share-prefix-image
@@ -124,6 +109,5 @@ read-spec =
     array-borrow-prefix-out
     slice-aggregate-read-3
     read-requires
-    slice-aggregate-show
     show-requires
     returns-5)

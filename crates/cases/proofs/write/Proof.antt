@@ -2,64 +2,52 @@
 -- Assumes nothing.
 use mathlib.Core.Path.{sym}
 use native.Mathlib.Omega.{arith}
-use lib.Seq.{length-take-le, length-front}
+use lib.Seq.{length-take-le}
+use borrow.Author.Needs.{needs}
 use Rattle.cases.proofs.write.Statement.{statement}
 use Rattle.cases.proofs.write.Tie as tie
 
 buffer-requires : tie.Need-buffer-requires
-buffer-requires c κs = tt
+buffer-requires c κs = search needs
 
 slice-aggregate-bytes : tie.Need-slice-aggregate-bytes
-slice-aggregate-bytes c = omega arith
+slice-aggregate-bytes c = search needs
 
 bytes-requires : tie.Need-bytes-requires
-bytes-requires c κs = omega arith
+bytes-requires c κs = search needs
 
 malformed-requires : tie.Need-malformed-requires
-malformed-requires c κs = tt
+malformed-requires c κs = search needs
 
 returns : tie.Need-returns
-returns c = tt
+returns c = search needs
 
 malformed-requires-2 : tie.Need-malformed-requires-2
-malformed-requires-2 c κs = tt
+malformed-requires-2 c κs = search needs
 
 returns-2 : tie.Need-returns-2
-returns-2 c = tt
-
-buffer-requires-2 : tie.Need-buffer-requires-2
-buffer-requires-2 c κs = tt
-
-slice-aggregate-put : tie.Need-slice-aggregate-put
-slice-aggregate-put c = omega arith
-
-put-requires : tie.Need-put-requires
-put-requires c κs = omega arith
+returns-2 c = search needs
 
 array-share-prefix-list : tie.Need-array-share-prefix-list
-array-share-prefix-list c = omega arith
+array-share-prefix-list c = search needs
 
 slice-aggregate-write : tie.Need-slice-aggregate-write
 slice-aggregate-write c = sym (length-take-le _ _ (omega arith))
 
 array-borrow-prefix-out : tie.Need-array-borrow-prefix-out
-array-borrow-prefix-out c = omega arith
+array-borrow-prefix-out c = search needs
 
 slice-aggregate-write-2 : tie.Need-slice-aggregate-write-2
 slice-aggregate-write-2 c = sym (length-take-le _ _ (omega arith))
 
 write-requires : tie.Need-write-requires
-write-requires c κs = tt
-
-slice-aggregate-show : tie.Need-slice-aggregate-show
-slice-aggregate-show c =
-    omega (arith, c .before .before .before .before .before .before .put .kept .0, length-front (c .before .before .before .before .before .before .put .last .0) (c .before .before .write .last .1 .1 .0) (c .before .before .before .before .before .before .before .before .before .before .before .before .before .before .before .before .args .room) (c .before .before .write .kept .1 .1 .0))
+write-requires c κs = search needs
 
 show-requires : tie.Need-show-requires
-show-requires c κs = tt
+show-requires c κs = search needs
 
 returns-3 : tie.Need-returns-3
-returns-3 c = tt
+returns-3 c = search needs
 
 pub write-spec : {M : Type 1} → statement M
 write-spec =
@@ -72,14 +60,10 @@ write-spec =
     returns
     malformed-requires-2
     returns-2
-    buffer-requires-2
-    slice-aggregate-put
-    put-requires
     array-share-prefix-list
     slice-aggregate-write
     array-borrow-prefix-out
     slice-aggregate-write-2
     write-requires
-    slice-aggregate-show
     show-requires
     returns-3)

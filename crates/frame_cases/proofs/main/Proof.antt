@@ -1,7 +1,11 @@
 -- `main` is safe and ends: each line starts behind the one before it.
 -- Assumes nothing.
-use Prim.Native.Nat.{_-_}
+use mathlib.Core.Path.{sym, _∙_}
+use mathlib.Core.List.{List}
+use Prim.Native.Nat.{ℕ, _-_}
 use native.Mathlib.Omega.{arith}
+use lib.ListN.{take, drop}
+use Rattle.lines.proofs.Laws.{case-long}
 use Rattle.frame_cases.proofs.main.Statement.{statement}
 use Rattle.frame_cases.proofs.main.Tie as tie
 
@@ -29,6 +33,18 @@ slice-aggregate-find c = omega arith
 find-requires : tie.Need-find-requires Inv-loop μ-loop
 find-requires c κs = omega arith
 
+sub-print-line : tie.Need-sub-print-line Inv-loop μ-loop
+sub-print-line c = omega arith
+
+part-print-line-start : tie.Need-part-print-line-start Inv-loop μ-loop
+part-print-line-start c = omega arith
+
+part-print-line-end : tie.Need-part-print-line-end Inv-loop μ-loop
+part-print-line-end c = omega arith
+
+print-line-requires : tie.Need-print-line-requires Inv-loop μ-loop
+print-line-requires c κs = tt
+
 sub-is-case : tie.Need-sub-is-case Inv-loop μ-loop
 sub-is-case c = omega arith
 
@@ -51,7 +67,10 @@ part-run-end : tie.Need-part-run-end Inv-loop μ-loop
 part-run-end c = omega arith
 
 run-requires : tie.Need-run-requires Inv-loop μ-loop
-run-requires c κs = c .before .before .before .is-case .ensures (c .before .before .if1 .taken)
+run-requires c κs =
+    let at = c .before .before .before .before .before .before .before .before .before .before .before .before .loop .at in
+    let line : List ℕ = take (c .before .before .before .before .before .before .before .before .before .find .result - at) (drop at (c .before .before .before .before .before .before .before .before .before .before .before .before .before .before .read-full .last .1 .0)) in
+    case-long line (sym (c .before .before .before .is-case .ensures) ∙ c .before .before .if1 .taken)
 
 add-at : tie.Need-add-at Inv-loop μ-loop
 add-at c = omega arith
@@ -77,6 +96,10 @@ main-spec =
     array-share-prefix-text
     slice-aggregate-find
     find-requires
+    sub-print-line
+    part-print-line-start
+    part-print-line-end
+    print-line-requires
     sub-is-case
     part-is-case-start
     part-is-case-end

@@ -1,21 +1,22 @@
--- `bytes` meets its contract: what it has stored lies within the buffer.
+-- `bytes` meets its contract: what it has stored, and the bytes of the rest of the field, are the field's.
 -- Assumes nothing.
 use mathlib.Core.Path.{_≡_, refl}
 use mathlib.Core.Logic.{inl, inr}
-use Prim.Native.Nat.{_-_, _≤_}
+use Prim.Native.Nat.{_-_}
 use native.Mathlib.Omega.{arith}
-use lib.ListN.{length}
+use denote.Ref.{now}
+use Rattle.lines.proofs.Fields.{Taken, taken-starts, taken-space, too-long, half, over-full, taken-series, taken-all}
 use Rattle.lines.proofs.bytes.Statement.{statement}
 use Rattle.lines.proofs.bytes.Tie as tie
 
 abbrev Inv-loop : tie.InvT-loop
-Inv-loop line from to out₀ n₀ i₀ out n i = (n ≤ length out) × (length out ≡ length out₀)
+Inv-loop line from to out₀ n₀ i₀ out n i = Taken line from to out₀ out n i
 
 abbrev μ-loop : tie.MeasureT-loop
 μ-loop line from to out₀ n₀ i₀ out n i = to - i
 
 loop-holds : tie.Need-loop-holds Inv-loop μ-loop
-loop-holds c = omega arith
+loop-holds c = let s = c .before .before .args in taken-starts (now (s .line)) (s .from) (s .to) (now (s .out))
 
 shared-slice-read-if1 : tie.Need-shared-slice-read-if1 Inv-loop μ-loop
 shared-slice-read-if1 c = omega arith
@@ -27,7 +28,10 @@ loop-less : tie.Need-loop-less Inv-loop μ-loop
 loop-less c = omega arith
 
 loop-again : tie.Need-loop-again Inv-loop μ-loop
-loop-again c = omega arith
+loop-again c =
+    let s = c .before .before .before .before .before .before .args in
+    let l = c .before .before .before .loop in
+    taken-space (now (s .line)) (s .from) (s .to) (now (s .out)) (l .out) (l .n) (l .i) (l .inv) (omega arith) (c .if1 .taken)
 
 sub-if2 : tie.Need-sub-if2 Inv-loop μ-loop
 sub-if2 c = omega arith
@@ -36,7 +40,12 @@ same-length : tie.Need-same-length Inv-loop μ-loop
 same-length c = omega arith
 
 returns : tie.Need-returns Inv-loop μ-loop
-returns c = inr refl
+returns c =
+    let s = c .before .before .before .before .before .before .before .args in
+    let l = c .before .before .before .before .loop in
+    let x = half (now (s .line)) (s .from) (s .to) (now (s .out)) (l .out) (l .n) (l .i) (l .inv) (omega arith) (c .before .if1 .left) (c .if2 .taken) (omega arith) in
+    let r = too-long (now (s .line)) (s .from) (s .to) (now (s .out)) (l .out) (l .n) (l .i) (l .inv) (omega arith) (c .before .if1 .left) x in
+    (r .0, (r .1, inr refl))
 
 series-at-requires : tie.Need-series-at-requires Inv-loop μ-loop
 series-at-requires c κs = omega arith
@@ -48,7 +57,13 @@ same-length-2 : tie.Need-same-length-2 Inv-loop μ-loop
 same-length-2 c = omega arith
 
 returns-2 : tie.Need-returns-2 Inv-loop μ-loop
-returns-2 c = inr refl
+returns-2 c =
+    let s = c .before .before .before .before .before .before .before .before .before .before .args in
+    let l = c .before .before .before .before .before .before .before .loop in
+    let t = c .before .before .series-at in
+    let x = over-full (now (s .line)) (s .from) (s .to) (now (s .out)) (l .out) (l .n) (l .i) (l .inv) (omega arith) (c .before .before .before .before .if1 .left) (t .result) (omega arith) (t .ensures .0) (c .if3 .taken) in
+    let r = too-long (now (s .line)) (s .from) (s .to) (now (s .out)) (l .out) (l .n) (l .i) (l .inv) (omega arith) (c .before .before .before .before .if1 .left) x in
+    (r .0, (r .1, inr refl))
 
 put-requires : tie.Need-put-requires Inv-loop μ-loop
 put-requires c κs = omega arith
@@ -57,13 +72,22 @@ loop-less-2 : tie.Need-loop-less-2 Inv-loop μ-loop
 loop-less-2 c = omega arith
 
 loop-again-2 : tie.Need-loop-again-2 Inv-loop μ-loop
-loop-again-2 c = omega arith
+loop-again-2 c =
+    let s = c .before .before .before .before .before .before .before .before .before .before .before .before .before .before .args in
+    let l = c .before .before .before .before .before .before .before .before .before .before .before .loop in
+    let t = c .before .before .before .before .before .before .series-at in
+    let p = c .before .before .put in
+    rw (p .ensures .0) (taken-series (now (s .line)) (s .from) (s .to) (now (s .out)) (l .out) (l .n) (l .i) (l .inv) (omega arith) (c .before .before .before .before .before .before .before .before .if1 .left) (t .result) (omega arith) (t .ensures .0) (t .ensures .1) (omega arith) (p .ensures .1) (p .kept .0))
 
 same-length-3 : tie.Need-same-length-3 Inv-loop μ-loop
 same-length-3 c = omega arith
 
 returns-3 : tie.Need-returns-3 Inv-loop μ-loop
-returns-3 c = inl (omega arith)
+returns-3 c =
+    let s = c .before .before .before .before .args in
+    let l = c .before .loop in
+    let r = taken-all (now (s .line)) (s .from) (s .to) (now (s .out)) (l .out) (l .n) (l .i) (l .inv) (omega arith) in
+    (r .0, (r .1, inl (omega arith)))
 
 pub bytes-spec : {M : Type 1} → statement M
 bytes-spec =

@@ -7,8 +7,8 @@ use lib.Seq.{length-take-le}
 use Rattle.text.specs.Text.{refusalText}
 use Rattle.text.proofs.Written.{answered-within}
 use borrow.Author.Needs.{needs}
-use Rattle.lines.proofs.print_refusal.Statement.{statement}
-use Rattle.lines.proofs.print_refusal.Tie as tie
+use Rattle.frame_cases.proofs.print_refusal.Statement.{statement}
+use Rattle.frame_cases.proofs.print_refusal.Tie as tie
 
 within : (c : tie.After-refusal-text) → c .refusal-text .result ≤ length (c .refusal-text .last .1 .1 .1 .0)
 within c =

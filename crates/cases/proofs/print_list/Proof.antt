@@ -1,4 +1,4 @@
--- `print` is safe: the list and the text lie within their buffers.
+-- `print_list` is safe: the list and the text lie within their buffers.
 -- Assumes nothing.
 use mathlib.Core.Path.{sym}
 use Prim.Native.Nat.{_≤_}
@@ -7,8 +7,8 @@ use lib.ListN.{length, take}
 use lib.Seq.{length-take-le}
 use Rattle.report.proofs.Fits.{report-within}
 use borrow.Author.Needs.{needs}
-use Rattle.cases.proofs.print.Statement.{statement}
-use Rattle.cases.proofs.print.Tie as tie
+use Rattle.cases.proofs.print_list.Statement.{statement}
+use Rattle.cases.proofs.print_list.Tie as tie
 
 within : (c : tie.After-report-text) → c .report-text .result ≤ length (c .report-text .last .1 .0)
 within c =
@@ -54,8 +54,8 @@ print-requires c κs = search needs
 returns-2 : tie.Need-returns-2
 returns-2 c = search needs
 
-pub print-spec : {M : Type 1} → statement M
-print-spec =
+pub print-list-spec : {M : Type 1} → statement M
+print-list-spec =
     tie.close
     (tie.spec
     find-requires
