@@ -9,9 +9,10 @@
 //     print LIST                      what the program `image` prints for a list
 //     show LENGTH, BYTES              how an answer of LENGTH bytes is shown, in a buffer that starts with BYTES
 //
-// ROOM and LENGTH are decimal numbers, at most 4,096. LIST, SIGNATURE, IMAGE and BYTES are at most 4,096 bytes, each a pair of hex digits, with
-// spaces between them or none. Behind a pair, *N makes N equal bytes of it, and +N makes N bytes that count up from it. Of the
-// words write, read, print and show the first letter decides, behind an n the next one. A line that has another form is answered "malformed".
+// ROOM and LENGTH are decimal numbers, at most 4,096. LIST, SIGNATURE, IMAGE and BYTES are at most 4,096 bytes, each a pair of hex
+// digits, with spaces between them or none. Behind a pair, *N makes N equal bytes of it, and +N makes N bytes that count up from it.
+// Of the words write, read, print and show the first letter decides, behind an n the next one. A line that has another form is
+// answered "malformed".
 // Of the text the first 131,072 bytes are read.
 //
 // The answer is the refusal, or the bytes that were written, 16 to a line; then their number, and whether every other byte of

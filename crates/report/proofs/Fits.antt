@@ -1,16 +1,15 @@
 -- Every image fits in 1,056 bytes and every text in 2,376; and which text a writer's answer stands for.
 -- Assumes nothing.
-use mathlib.Core.Path.{_≡_, refl, sym, ap, _∙_, subst}
-use mathlib.Core.List.{List, [], _∷_, _++_}
-use mathlib.Core.Bool.{Bool, true, false, cond}
-use Prim.Native.Nat.{ℕ, zero, suc, _+_, _*_, _/_, _%_, _≤_}
+use mathlib.Core.Path.{_≡_, refl, ap}
+use mathlib.Core.List.{List, _++_}
+use mathlib.Core.Bool.{true, false}
+use Prim.Native.Nat.{ℕ, _+_, _/_, _≤_}
 use native.Mathlib.Omega.{arith}
 use lib.ListN.{length, take, drop, length-append}
 use lib.Seq.{take-append-seam}
 use lib.Dec.{ltb}
 use borrow.Author.Tests.{le-ltb}
 use Rattle.carried.specs.Image as C
-use Rattle.carried.specs.Image.{image}
 use Rattle.carried.specs.Convention.{Plan, bad, good, plan, written, write}
 use Rattle.carried.proofs.Readings.{image-length}
 use Rattle.device.specs.declared.Device.the-variants.{Fpu}
@@ -20,7 +19,8 @@ use Rattle.answers.specs.declared.Answer.{Answer}
 use Rattle.answers.specs.Answers.{answerOf, bufferOf, within, writeInto}
 use Rattle.placement.proofs.Bounds.{refusal-bound, plan-bound}
 use Rattle.placement.proofs.Refusing.{by-record, refused-exactly}
-use Rattle.text.specs.Text.{digits, decimal, answered, stored, imageText, refusalText}
+use Rattle.text.specs.Text.{answered, stored, imageText, refusalText}
+use Rattle.text.proofs.Decimal.{refusal-few}
 use Rattle.text.proofs.Written.{lines-length}
 use Rattle.report.specs.Report.{textOf, reportText}
 
@@ -45,22 +45,9 @@ bounded list = go (plan (O32 Fpu) true list) refl
 
 -- ---- the text
 
--- a number has no more digits than it may
-digits-few : (most n : ℕ) → length (digits most n) ≤ most
-digits-few zero n = omega arith
-digits-few (suc most) n = go (ltb n 10) (digits-few most (n / 10))
-  where
-    go : (t : Bool) → length (digits most (n / 10)) ≤ most → length (cond t ((48 + n) ∷ []) (digits most (n / 10) ++ ((48 + n % 10) ∷ []))) ≤ suc most
-    go true h = omega arith
-    go false h = omega (arith, length-append (digits most (n / 10)) ((48 + n % 10) ∷ []))
-
-decimal-few : (n : ℕ) → length (decimal n) ≤ n + 1
-unfolding decimal
-decimal-few n = omega (arith, digits-few (suc n) n)
-
 text-fits : (a : C.Answer) → Bounded a → length (textOf a) ≤ 2376
 text-fits (C.done x) h = omega (arith, lines-length x (length x / 4))
-text-fits (C.refused r place j) h = rw (length-append, length-append, length-append, length-append, length-append, length-append) (omega (arith, decimal-few r, decimal-few place, decimal-few j))
+text-fits (C.refused r place j) h = omega (arith, refusal-few r place j (omega arith) (omega arith) (omega arith))
 
 pub report-fits : (list : List ℕ) → length (reportText list) ≤ 2376
 report-fits list = text-fits (write (O32 Fpu) list) (bounded list)

@@ -6,7 +6,6 @@ use native.Mathlib.Omega.{arith}
 use lib.ListN.{length, take}
 use lib.Seq.{length-take-le}
 use Rattle.report.proofs.Fits.{report-within}
-use borrow.Author.Needs.{needs}
 use Rattle.cases.proofs.print_list.Statement.{statement}
 use Rattle.cases.proofs.print_list.Tie as tie
 
@@ -16,31 +15,31 @@ within c =
     report-within (take (b .result) (b .last .1 .1 .1 .0)) _ (c .report-text .ensures .0) (c .report-text .ensures .1)
 
 find-requires : tie.Need-find-requires
-find-requires c κs = search needs
+find-requires c κs = omega arith
 
 buffer-requires : tie.Need-buffer-requires
-buffer-requires c κs = search needs
+buffer-requires c κs = tt
 
 slice-aggregate-bytes : tie.Need-slice-aggregate-bytes
-slice-aggregate-bytes c = search needs
+slice-aggregate-bytes c = omega arith
 
 bytes-requires : tie.Need-bytes-requires
-bytes-requires c κs = search needs
+bytes-requires c κs = omega arith
 
 malformed-requires : tie.Need-malformed-requires
-malformed-requires c κs = search needs
+malformed-requires c κs = tt
 
 returns : tie.Need-returns
-returns c = search needs
+returns c = tt
 
 array-share-prefix-list : tie.Need-array-share-prefix-list
-array-share-prefix-list c = search needs
+array-share-prefix-list c = omega arith
 
 slice-aggregate-report-text : tie.Need-slice-aggregate-report-text
 slice-aggregate-report-text c = sym (length-take-le _ _ (omega arith))
 
 report-text-requires : tie.Need-report-text-requires
-report-text-requires c κs = search needs
+report-text-requires c κs = tt
 
 array-share-prefix-out : tie.Need-array-share-prefix-out
 array-share-prefix-out c = within c
@@ -49,10 +48,10 @@ slice-aggregate-print : tie.Need-slice-aggregate-print
 slice-aggregate-print c = sym (length-take-le _ _ (within (c .before)))
 
 print-requires : tie.Need-print-requires
-print-requires c κs = search needs
+print-requires c κs = tt
 
 returns-2 : tie.Need-returns-2
-returns-2 c = search needs
+returns-2 c = tt
 
 pub print-list-spec : {M : Type 1} → statement M
 print-list-spec =

@@ -3,51 +3,50 @@
 use mathlib.Core.Path.{sym}
 use native.Mathlib.Omega.{arith}
 use lib.Seq.{length-take-le}
-use borrow.Author.Needs.{needs}
 use Rattle.cases.proofs.write.Statement.{statement}
 use Rattle.cases.proofs.write.Tie as tie
 
 buffer-requires : tie.Need-buffer-requires
-buffer-requires c κs = search needs
+buffer-requires c κs = tt
 
 slice-aggregate-bytes : tie.Need-slice-aggregate-bytes
-slice-aggregate-bytes c = search needs
+slice-aggregate-bytes c = omega arith
 
 bytes-requires : tie.Need-bytes-requires
-bytes-requires c κs = search needs
+bytes-requires c κs = omega arith
 
 malformed-requires : tie.Need-malformed-requires
-malformed-requires c κs = search needs
+malformed-requires c κs = tt
 
 returns : tie.Need-returns
-returns c = search needs
+returns c = tt
 
 malformed-requires-2 : tie.Need-malformed-requires-2
-malformed-requires-2 c κs = search needs
+malformed-requires-2 c κs = tt
 
 returns-2 : tie.Need-returns-2
-returns-2 c = search needs
+returns-2 c = tt
 
 array-share-prefix-list : tie.Need-array-share-prefix-list
-array-share-prefix-list c = search needs
+array-share-prefix-list c = omega arith
 
 slice-aggregate-write : tie.Need-slice-aggregate-write
 slice-aggregate-write c = sym (length-take-le _ _ (omega arith))
 
 array-borrow-prefix-out : tie.Need-array-borrow-prefix-out
-array-borrow-prefix-out c = search needs
+array-borrow-prefix-out c = omega arith
 
 slice-aggregate-write-2 : tie.Need-slice-aggregate-write-2
 slice-aggregate-write-2 c = sym (length-take-le _ _ (omega arith))
 
 write-requires : tie.Need-write-requires
-write-requires c κs = search needs
+write-requires c κs = tt
 
 show-requires : tie.Need-show-requires
-show-requires c κs = search needs
+show-requires c κs = tt
 
 returns-3 : tie.Need-returns-3
-returns-3 c = search needs
+returns-3 c = tt
 
 pub write-spec : {M : Type 1} → statement M
 write-spec =

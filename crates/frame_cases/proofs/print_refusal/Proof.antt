@@ -2,11 +2,11 @@
 -- Assumes nothing.
 use mathlib.Core.Path.{sym}
 use Prim.Native.Nat.{_≤_}
+use native.Mathlib.Omega.{arith}
 use lib.ListN.{length}
 use lib.Seq.{length-take-le}
 use Rattle.text.specs.Text.{refusalText}
 use Rattle.text.proofs.Written.{answered-within}
-use borrow.Author.Needs.{needs}
 use Rattle.frame_cases.proofs.print_refusal.Statement.{statement}
 use Rattle.frame_cases.proofs.print_refusal.Tie as tie
 
@@ -16,7 +16,7 @@ within c =
     answered-within (refusalText (s .args .number) (s .args .place) (s .args .argument)) (c .refusal-text .ensures .0) (c .refusal-text .kept .1 .1 .1 .0)
 
 slice-aggregate-refusal-text : tie.Need-slice-aggregate-refusal-text
-slice-aggregate-refusal-text c = search needs
+slice-aggregate-refusal-text c = omega arith
 
 refusal-text-requires : tie.Need-refusal-text-requires
 refusal-text-requires c κs = tt

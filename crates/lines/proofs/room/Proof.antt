@@ -4,18 +4,17 @@ use mathlib.Core.Path.{sym, _∙_}
 use native.Mathlib.Omega.{arith}
 use denote.Ref.{now}
 use Rattle.lines.proofs.Laws.{room-none, room-wrong, room-right}
-use borrow.Author.Needs.{needs}
 use Rattle.lines.proofs.room.Statement.{statement}
 use Rattle.lines.proofs.room.Tie as tie
 
 find-requires : tie.Need-find-requires
-find-requires c κs = search needs
+find-requires c κs = omega arith
 
 find-requires-2 : tie.Need-find-requires-2
-find-requires-2 c κs = search needs
+find-requires-2 c κs = omega arith
 
 ends-requires : tie.Need-ends-requires
-ends-requires c κs = search needs
+ends-requires c κs = tt
 
 returns : tie.Need-returns
 returns c =
@@ -26,13 +25,13 @@ returns c =
     (c .ends .ensures ∙ sym e, rw (c .ends .ensures) (omega arith))
 
 add-decimal : tie.Need-add-decimal
-add-decimal c = search needs
+add-decimal c = omega arith
 
 decimal-requires : tie.Need-decimal-requires
-decimal-requires c κs = search needs
+decimal-requires c κs = omega arith
 
 ends-requires-2 : tie.Need-ends-requires-2
-ends-requires-2 c κs = search needs
+ends-requires-2 c κs = tt
 
 returns-2 : tie.Need-returns-2
 returns-2 c =
@@ -43,10 +42,10 @@ returns-2 c =
     (c .ends2 .ensures ∙ sym e, rw (c .ends2 .ensures) (omega arith))
 
 add-ends : tie.Need-add-ends
-add-ends c = search needs
+add-ends c = omega arith
 
 ends-requires-3 : tie.Need-ends-requires-3
-ends-requires-3 c κs = search needs
+ends-requires-3 c κs = tt
 
 returns-3 : tie.Need-returns-3
 returns-3 c =

@@ -5,30 +5,29 @@ use Prim.Native.Nat.{_+_}
 use native.Mathlib.Omega.{arith}
 use denote.Ref.{now}
 use Rattle.lines.proofs.Laws.{behind-end, series-high, series-low, series-one, series-equal, series-counting}
-use borrow.Author.Needs.{needs}
 use Rattle.lines.proofs.series_at.Statement.{statement}
 use Rattle.lines.proofs.series_at.Tie as tie
 
 shared-slice-read-digit : tie.Need-shared-slice-read-digit
-shared-slice-read-digit c = search needs
+shared-slice-read-digit c = omega arith
 
 digit-requires : tie.Need-digit-requires
-digit-requires c κs = search needs
+digit-requires c κs = tt
 
 add-digit : tie.Need-add-digit
-add-digit c = search needs
+add-digit c = omega arith
 
 shared-slice-read-digit-2 : tie.Need-shared-slice-read-digit-2
-shared-slice-read-digit-2 c = search needs
+shared-slice-read-digit-2 c = omega arith
 
 digit-requires-2 : tie.Need-digit-requires-2
-digit-requires-2 c κs = search needs
+digit-requires-2 c κs = tt
 
 add-behind : tie.Need-add-behind
-add-behind c = search needs
+add-behind c = omega arith
 
 made-requires : tie.Need-made-requires
-made-requires c κs = search needs
+made-requires c κs = tt
 
 returns : tie.Need-returns
 returns c =
@@ -39,7 +38,7 @@ returns c =
     (c .made .ensures ∙ sym e, rw (c .made .ensures) (omega arith))
 
 made-requires-2 : tie.Need-made-requires-2
-made-requires-2 c κs = search needs
+made-requires-2 c κs = tt
 
 returns-2 : tie.Need-returns-2
 returns-2 c =
@@ -50,13 +49,13 @@ returns-2 c =
     (c .made2 .ensures ∙ sym e, rw (c .made2 .ensures) (omega arith))
 
 mul-byte : tie.Need-mul-byte
-mul-byte c = search needs
+mul-byte c = omega arith
 
 add-byte : tie.Need-add-byte
-add-byte c = search needs
+add-byte c = omega arith
 
 made-requires-3 : tie.Need-made-requires-3
-made-requires-3 c κs = search needs
+made-requires-3 c κs = tt
 
 returns-3 : tie.Need-returns-3
 returns-3 c =
@@ -68,16 +67,16 @@ returns-3 c =
     (c .made3 .ensures ∙ sym e, rw (c .made3 .ensures) (omega arith))
 
 shared-slice-read-sign : tie.Need-shared-slice-read-sign
-shared-slice-read-sign c = search needs
+shared-slice-read-sign c = omega arith
 
 add-decimal : tie.Need-add-decimal
-add-decimal c = search needs
+add-decimal c = omega arith
 
 decimal-requires : tie.Need-decimal-requires
-decimal-requires c κs = search needs
+decimal-requires c κs = omega arith
 
 made-requires-4 : tie.Need-made-requires-4
-made-requires-4 c κs = search needs
+made-requires-4 c κs = tt
 
 returns-4 : tie.Need-returns-4
 returns-4 c =
@@ -88,13 +87,13 @@ returns-4 c =
     (c .made4 .ensures ∙ sym e, rw (c .made4 .ensures) (omega (arith, c .before .decimal .ensures .1)))
 
 add-decimal-2 : tie.Need-add-decimal-2
-add-decimal-2 c = search needs
+add-decimal-2 c = omega arith
 
 decimal-requires-2 : tie.Need-decimal-requires-2
-decimal-requires-2 c κs = search needs
+decimal-requires-2 c κs = omega arith
 
 made-requires-5 : tie.Need-made-requires-5
-made-requires-5 c κs = search needs
+made-requires-5 c κs = tt
 
 returns-5 : tie.Need-returns-5
 returns-5 c =
@@ -105,7 +104,7 @@ returns-5 c =
     (c .made5 .ensures ∙ sym e, rw (c .made5 .ensures) (omega (arith, c .before .decimal2 .ensures .1)))
 
 made-requires-6 : tie.Need-made-requires-6
-made-requires-6 c κs = search needs
+made-requires-6 c κs = tt
 
 returns-6 : tie.Need-returns-6
 returns-6 c =

@@ -14,37 +14,37 @@ use Rattle.shown.proofs.put_byte.Statement.{statement}
 use Rattle.shown.proofs.put_byte.Tie as tie
 
 slice-aggregate-put-if : tie.Need-slice-aggregate-put-if
-slice-aggregate-put-if c = search needs
+slice-aggregate-put-if c = omega arith
 
 put-if-requires : tie.Need-put-if-requires
-put-if-requires c κs = search needs
+put-if-requires c κs = omega arith
 
 shared-slice-read-byte : tie.Need-shared-slice-read-byte
-shared-slice-read-byte c = search needs
+shared-slice-read-byte c = omega arith
 
 high-requires : tie.Need-high-requires
-high-requires c κs = search needs
+high-requires c κs = tt
 
 low-requires : tie.Need-low-requires
-low-requires c κs = search needs
+low-requires c κs = tt
 
 slice-aggregate-put : tie.Need-slice-aggregate-put
-slice-aggregate-put c = search needs
+slice-aggregate-put c = omega arith
 
 put-requires : tie.Need-put-requires
-put-requires c κs = search needs
+put-requires c κs = omega arith
 
 add-closes : tie.Need-add-closes
-add-closes c = search needs
+add-closes c = omega arith
 
 closes-requires : tie.Need-closes-requires
-closes-requires c κs = search needs
+closes-requires c κs = tt
 
 slice-aggregate-put-if-2 : tie.Need-slice-aggregate-put-if-2
-slice-aggregate-put-if-2 c = search needs
+slice-aggregate-put-if-2 c = omega arith
 
 put-if-requires-2 : tie.Need-put-if-requires-2
-put-if-requires-2 c κs = search needs
+put-if-requires-2 c κs = omega arith
 
 same-length : tie.Need-same-length
 same-length c = search needs

@@ -10,7 +10,7 @@ use Rattle.shown.proofs.put_if.Statement.{statement}
 use Rattle.shown.proofs.put_if.Tie as tie
 
 put-requires : tie.Need-put-requires
-put-requires c κs = search needs
+put-requires c κs = omega arith
 
 same-length : tie.Need-same-length
 same-length c = search needs

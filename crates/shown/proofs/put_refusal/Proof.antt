@@ -9,7 +9,7 @@ use Rattle.shown.proofs.put_refusal.Statement.{statement}
 use Rattle.shown.proofs.put_refusal.Tie as tie
 
 refusal-text-requires : tie.Need-refusal-text-requires
-refusal-text-requires c κs = search needs
+refusal-text-requires c κs = tt
 
 same-length : tie.Need-same-length
 same-length c = search needs
@@ -22,7 +22,7 @@ returns c =
     (w .0, w .1 ∙ sym (part-number (s .number) (s .place) (s .argument) (c .before .before .before .before .if1 .taken)))
 
 refusal-text-requires-2 : tie.Need-refusal-text-requires-2
-refusal-text-requires-2 c κs = search needs
+refusal-text-requires-2 c κs = tt
 
 same-length-2 : tie.Need-same-length-2
 same-length-2 c = search needs
@@ -35,7 +35,7 @@ returns-2 c =
     (w .0, w .1 ∙ sym (part-place (s .number) (s .place) (s .argument) (omega arith) (c .before .before .before .before .if2 .taken)))
 
 refusal-text-requires-3 : tie.Need-refusal-text-requires-3
-refusal-text-requires-3 c κs = search needs
+refusal-text-requires-3 c κs = tt
 
 same-length-3 : tie.Need-same-length-3
 same-length-3 c = search needs

@@ -8,10 +8,10 @@ use Rattle.shown.proofs.put_verdict.Statement.{statement}
 use Rattle.shown.proofs.put_verdict.Tie as tie
 
 slice-aggregate-put : tie.Need-slice-aggregate-put
-slice-aggregate-put c = search needs
+slice-aggregate-put c = omega arith
 
 put-requires : tie.Need-put-requires
-put-requires c κs = search needs
+put-requires c κs = omega arith
 
 same-length : tie.Need-same-length
 same-length c = search needs
@@ -23,10 +23,10 @@ returns c =
     (omega arith, rw (c .before .before .before .before .before .if1 .taken) (take-put _ (now (s .text)) (omega arith) (p .ensures .1) (p .ensures .0)))
 
 slice-aggregate-put-2 : tie.Need-slice-aggregate-put-2
-slice-aggregate-put-2 c = search needs
+slice-aggregate-put-2 c = omega arith
 
 put-requires-2 : tie.Need-put-requires-2
-put-requires-2 c κs = search needs
+put-requires-2 c κs = omega arith
 
 same-length-2 : tie.Need-same-length-2
 same-length-2 c = search needs
