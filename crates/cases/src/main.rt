@@ -50,7 +50,7 @@ fn write(device: Device, room: usize, line: &[u8], from: usize) {
     if room > 4096 {
         return malformed();
     }
-    let mut out = [shown::FILL; 4096];
+    let mut out = shown::fresh();
     let answer = call::write(device, &list[..n], &mut out[..room]);
     show(answer, &out);
 }
@@ -76,7 +76,7 @@ fn read(device: Device, room: usize, line: &[u8], from: usize)
     if room > 4096 {
         return malformed();
     }
-    let mut out = [shown::FILL; 4096];
+    let mut out = shown::fresh();
     let answer = call::read(device, &signature[..n], &image[..m], &mut out[..room]);
     show(answer, &out);
 }
@@ -97,7 +97,7 @@ fn print_list(line: &[u8]) {
 // An answer of so many bytes, in a buffer that starts with the bytes behind a place of a line: where more than these are changed, the
 // answer's last line says so.
 fn show_bytes(length: usize, line: &[u8], from: usize) {
-    let mut out = [shown::FILL; 4096];
+    let mut out = shown::fresh();
     let n = lines::bytes(line, from, line.len(), &mut out);
     if n > 4096 {
         return malformed();

@@ -54,6 +54,9 @@ malformed-requires-4 c κs = tt
 returns-4 : tie.Need-returns-4
 returns-4 c = tt
 
+fresh-requires : tie.Need-fresh-requires
+fresh-requires c κs = tt
+
 array-share-prefix-signature : tie.Need-array-share-prefix-signature
 array-share-prefix-signature c = omega arith
 
@@ -101,6 +104,7 @@ read-spec =
     returns-3
     malformed-requires-4
     returns-4
+    fresh-requires
     array-share-prefix-signature
     slice-aggregate-read
     array-share-prefix-image

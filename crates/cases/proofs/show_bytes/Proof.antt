@@ -4,6 +4,9 @@ use native.Mathlib.Omega.{arith}
 use Rattle.cases.proofs.show_bytes.Statement.{statement}
 use Rattle.cases.proofs.show_bytes.Tie as tie
 
+fresh-requires : tie.Need-fresh-requires
+fresh-requires c κs = tt
+
 slice-aggregate-bytes : tie.Need-slice-aggregate-bytes
 slice-aggregate-bytes c = omega arith
 
@@ -35,6 +38,7 @@ pub show-bytes-spec : {M : Type 1} → statement M
 show-bytes-spec =
     tie.close
     (tie.spec
+    fresh-requires
     slice-aggregate-bytes
     bytes-requires
     malformed-requires

@@ -27,6 +27,9 @@ malformed-requires-2 c κs = tt
 returns-2 : tie.Need-returns-2
 returns-2 c = tt
 
+fresh-requires : tie.Need-fresh-requires
+fresh-requires c κs = tt
+
 array-share-prefix-list : tie.Need-array-share-prefix-list
 array-share-prefix-list c = omega arith
 
@@ -59,6 +62,7 @@ write-spec =
     returns
     malformed-requires-2
     returns-2
+    fresh-requires
     array-share-prefix-list
     slice-aggregate-write
     array-borrow-prefix-out
