@@ -41,13 +41,12 @@ fn show(answer: Answer, out: &[u8; 4096]) {
 }
 
 // The writer, of the list behind a place of a line.
-fn write(device: Device, room: usize, line: &[u8], from: usize) {
+fn write(device: Device, room: usize, line: &[u8], from: usize)
+    requires { ⌜ room ≤ 4096 ⌝ }
+{
     let mut list = io::buffer();
     let n = lines::bytes(line, from, line.len(), &mut list);
     if n > 4096 {
-        return malformed();
-    }
-    if room > 4096 {
         return malformed();
     }
     let mut out = shown::fresh();
@@ -57,6 +56,7 @@ fn write(device: Device, room: usize, line: &[u8], from: usize) {
 
 // The reader, of the signature behind a place of a line and the image behind a comma.
 fn read(device: Device, room: usize, line: &[u8], from: usize)
+    requires { ⌜ room ≤ 4096 ⌝ }
     requires { ⌜ from ≤ length (now line) ⌝ }
 {
     let comma = lines::find(line, from, b',');
@@ -71,9 +71,6 @@ fn read(device: Device, room: usize, line: &[u8], from: usize)
         return malformed();
     }
     if m > 4096 {
-        return malformed();
-    }
-    if room > 4096 {
         return malformed();
     }
     let mut out = shown::fresh();
@@ -102,9 +99,6 @@ fn show_bytes(length: usize, line: &[u8], from: usize) {
     if n > 4096 {
         return malformed();
     }
-    if length > 4096 {
-        return malformed();
-    }
     show(answers::reply(0, 0, 0, length), &out);
 }
 
@@ -123,11 +117,16 @@ fn letter(line: &[u8]) -> u8
 fn run(line: &[u8])
     requires { ⌜ 1 ≤ length (now line) ⌝ }
 {
+    let word = letter(line);
+    if word == b'p' {
+        return print_list(line);
+    }
     let device = lines::device_of(line);
     let room = lines::room(line);
-    let word = letter(line);
+    if room.value > 4096 {
+        return malformed();
+    }
     match word {
-        b'p' => print_list(line),
         b'r' => read(device, room.value, line, room.end),
         b's' => show_bytes(room.value, line, room.end),
         b'w' => write(device, room.value, line, room.end),
