@@ -41,22 +41,22 @@ fn show(answer: Answer, out: &[u8; 4096]) {
 }
 
 // The writer, of the list behind a place of a line.
-fn write(device: Device, room: usize, line: &[u8], from: usize) {
+fn write(device: Device, room: usize, line: &[u8], from: usize)
+    requires { ⌜ room ≤ 4096 ⌝ }
+{
     let mut list = io::buffer();
     let n = lines::bytes(line, from, line.len(), &mut list);
     if n > 4096 {
         return malformed();
     }
-    if room > 4096 {
-        return malformed();
-    }
-    let mut out = [shown::FILL; 4096];
+    let mut out = shown::fresh();
     let answer = call::write(device, &list[..n], &mut out[..room]);
     show(answer, &out);
 }
 
 // The reader, of the signature behind a place of a line and the image behind a comma.
 fn read(device: Device, room: usize, line: &[u8], from: usize)
+    requires { ⌜ room ≤ 4096 ⌝ }
     requires { ⌜ from ≤ length (now line) ⌝ }
 {
     let comma = lines::find(line, from, b',');
@@ -73,10 +73,7 @@ fn read(device: Device, room: usize, line: &[u8], from: usize)
     if m > 4096 {
         return malformed();
     }
-    if room > 4096 {
-        return malformed();
-    }
-    let mut out = [shown::FILL; 4096];
+    let mut out = shown::fresh();
     let answer = call::read(device, &signature[..n], &image[..m], &mut out[..room]);
     show(answer, &out);
 }
@@ -97,12 +94,9 @@ fn print_list(line: &[u8]) {
 // An answer of so many bytes, in a buffer that starts with the bytes behind a place of a line: where more than these are changed, the
 // answer's last line says so.
 fn show_bytes(length: usize, line: &[u8], from: usize) {
-    let mut out = [shown::FILL; 4096];
+    let mut out = shown::fresh();
     let n = lines::bytes(line, from, line.len(), &mut out);
     if n > 4096 {
-        return malformed();
-    }
-    if length > 4096 {
         return malformed();
     }
     show(answers::reply(0, 0, 0, length), &out);
@@ -123,11 +117,16 @@ fn letter(line: &[u8]) -> u8
 fn run(line: &[u8])
     requires { ⌜ 1 ≤ length (now line) ⌝ }
 {
+    let word = letter(line);
+    if word == b'p' {
+        return print_list(line);
+    }
     let device = lines::device_of(line);
     let room = lines::room(line);
-    let word = letter(line);
+    if room.value > 4096 {
+        return malformed();
+    }
     match word {
-        b'p' => print_list(line),
         b'r' => read(device, room.value, line, room.end),
         b's' => show_bytes(room.value, line, room.end),
         b'w' => write(device, room.value, line, room.end),

@@ -84,7 +84,7 @@ fn code_of(device: Device, request: Request, back: bool, out: &mut [u8]) -> Answ
 fn show_code(room: usize, device: Device, request: Request, back: bool)
     requires { ⌜ room ≤ 4096 ⌝ }
 {
-    let mut out = [shown::FILL; 4096];
+    let mut out = shown::fresh();
     let answer = code_of(device, request, back, &mut out[..room]);
     show(answer, &out);
 }

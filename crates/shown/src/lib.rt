@@ -5,13 +5,21 @@ ghost use mathlib.Core.List.{[], _++_};
 ghost use mathlib.Core.Path.{_≡_};
 ghost use Prim.Native.Nat.{_%_, _*_, _+_, _<_, _≤_};
 ghost use lib.Dec.{eqb, ltb};
-ghost use lib.ListN.{drop, length, take};
+ghost use lib.ListN.{drop, length, replicate, take};
 ghost use Rattle.io.specs.Counts.{Counts};
 ghost use Rattle.shown.specs.Shown.{answerText, byteText, bytesText, isKept, refusalPart, verdict};
 use answers::Answer;
 
 // What every byte of a case's buffer is before the call.
-pub const FILL: u8 = 0xA5;
+const FILL: u8 = 0xA5;
+
+// Such a buffer. (Its length is said apart, since lending it as a slice asks for that.)
+pub fn fresh() -> [u8; 4096]
+    ensures { λ r. ⌜ r ≡ replicate 4096 165 ⌝ }
+    ensures { λ r. ⌜ 4096 ≡ length r ⌝ }
+{
+    [FILL; 4096]
+}
 
 // A text, where it is wanted, into a buffer from a place on; the place behind it.
 fn put_if(wanted: bool, piece: &[u8], text: &mut [u8], at: usize) -> usize

@@ -48,11 +48,8 @@ malformed-requires-3 c κs = tt
 returns-3 : tie.Need-returns-3
 returns-3 c = tt
 
-malformed-requires-4 : tie.Need-malformed-requires-4
-malformed-requires-4 c κs = tt
-
-returns-4 : tie.Need-returns-4
-returns-4 c = tt
+fresh-requires : tie.Need-fresh-requires
+fresh-requires c κs = tt
 
 array-share-prefix-signature : tie.Need-array-share-prefix-signature
 array-share-prefix-signature c = omega arith
@@ -78,8 +75,8 @@ read-requires c κs = tt
 show-requires : tie.Need-show-requires
 show-requires c κs = tt
 
-returns-5 : tie.Need-returns-5
-returns-5 c = tt
+returns-4 : tie.Need-returns-4
+returns-4 c = tt
 
 pub read-spec : {M : Type 1} → statement M
 read-spec =
@@ -99,8 +96,7 @@ read-spec =
     returns-2
     malformed-requires-3
     returns-3
-    malformed-requires-4
-    returns-4
+    fresh-requires
     array-share-prefix-signature
     slice-aggregate-read
     array-share-prefix-image
@@ -109,4 +105,4 @@ read-spec =
     slice-aggregate-read-3
     read-requires
     show-requires
-    returns-5)
+    returns-4)

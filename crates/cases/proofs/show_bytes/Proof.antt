@@ -4,6 +4,9 @@ use native.Mathlib.Omega.{arith}
 use Rattle.cases.proofs.show_bytes.Statement.{statement}
 use Rattle.cases.proofs.show_bytes.Tie as tie
 
+fresh-requires : tie.Need-fresh-requires
+fresh-requires c κs = tt
+
 slice-aggregate-bytes : tie.Need-slice-aggregate-bytes
 slice-aggregate-bytes c = omega arith
 
@@ -16,31 +19,24 @@ malformed-requires c κs = tt
 returns : tie.Need-returns
 returns c = tt
 
-malformed-requires-2 : tie.Need-malformed-requires-2
-malformed-requires-2 c κs = tt
-
-returns-2 : tie.Need-returns-2
-returns-2 c = tt
-
 reply-requires : tie.Need-reply-requires
 reply-requires c κs = tt
 
 show-requires : tie.Need-show-requires
 show-requires c κs = tt
 
-returns-3 : tie.Need-returns-3
-returns-3 c = tt
+returns-2 : tie.Need-returns-2
+returns-2 c = tt
 
 pub show-bytes-spec : {M : Type 1} → statement M
 show-bytes-spec =
     tie.close
     (tie.spec
+    fresh-requires
     slice-aggregate-bytes
     bytes-requires
     malformed-requires
     returns
-    malformed-requires-2
-    returns-2
     reply-requires
     show-requires
-    returns-3)
+    returns-2)

@@ -21,11 +21,8 @@ malformed-requires c κs = tt
 returns : tie.Need-returns
 returns c = tt
 
-malformed-requires-2 : tie.Need-malformed-requires-2
-malformed-requires-2 c κs = tt
-
-returns-2 : tie.Need-returns-2
-returns-2 c = tt
+fresh-requires : tie.Need-fresh-requires
+fresh-requires c κs = tt
 
 array-share-prefix-list : tie.Need-array-share-prefix-list
 array-share-prefix-list c = omega arith
@@ -45,8 +42,8 @@ write-requires c κs = tt
 show-requires : tie.Need-show-requires
 show-requires c κs = tt
 
-returns-3 : tie.Need-returns-3
-returns-3 c = tt
+returns-2 : tie.Need-returns-2
+returns-2 c = tt
 
 pub write-spec : {M : Type 1} → statement M
 write-spec =
@@ -57,12 +54,11 @@ write-spec =
     bytes-requires
     malformed-requires
     returns
-    malformed-requires-2
-    returns-2
+    fresh-requires
     array-share-prefix-list
     slice-aggregate-write
     array-borrow-prefix-out
     slice-aggregate-write-2
     write-requires
     show-requires
-    returns-3)
+    returns-2)

@@ -6,6 +6,9 @@ use lib.Seq.{length-take-le}
 use Rattle.frame_cases.proofs.show_code.Statement.{statement}
 use Rattle.frame_cases.proofs.show_code.Tie as tie
 
+fresh-requires : tie.Need-fresh-requires
+fresh-requires c κs = tt
+
 array-borrow-prefix-out : tie.Need-array-borrow-prefix-out
 array-borrow-prefix-out c = omega arith
 
@@ -25,6 +28,7 @@ pub show-code-spec : {M : Type 1} → statement M
 show-code-spec =
     tie.close
     (tie.spec
+    fresh-requires
     array-borrow-prefix-out
     slice-aggregate-code-of
     code-of-requires
