@@ -1,11 +1,18 @@
 -- Demands 1 and 3 of what the functions for C answer and leave in their buffers, for every device number.
 -- Assumes nothing.
+use mathlib.Core.Path.{_≡_, refl}
+use mathlib.Core.List.{[]}
 use Prim.Native.Nat.{ℕ}
+use lib.ListN.{replicate}
 use Rattle.placement.specs.Refusing.{Refusals}
 use Rattle.placement.specs.Demand.{Demand}
 use Rattle.placement.proofs.Refusals.{refusals}
 use Rattle.placement.proofs.Demand.{demand}
 use Rattle.capi.specs.Numbers.{deviceOf, functionsForC}
+
+-- A case, computed: the empty list into a buffer of 49 bytes has an image of 48.
+pub empty-for-c : functionsForC 0 .write [] (replicate 49 0xC5) .length ≡ 48
+empty-for-c = refl
 
 pub refusals-for-c : (device : ℕ) → Refusals (functionsForC device)
 refusals-for-c device = refusals (deviceOf device)
