@@ -1,5 +1,5 @@
 -- What a caller gets from a reader and a writer with lent buffers, and the clauses of demand 3 on images, readings and rewritings, said
--- of that. Nothing here belongs to one convention. Demand 3 as a whole, with its text, is placement/specs/Demand.antt.
+-- of that. Nothing here belongs to one convention. Demand 3 as a whole, with its text, is o32_laws/specs/Demand.antt.
 use mathlib.Core.Path.{_≡_}
 use mathlib.Core.Logic.{_⊎_, _↔_}
 use mathlib.Core.List.{List}

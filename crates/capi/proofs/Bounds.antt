@@ -16,15 +16,15 @@ use Rattle.carried.specs.Convention.{Plan, bad, good, plan, written, write}
 use Rattle.carried.proofs.Readings.{image-length}
 use Rattle.o32.specs.declared.State.{State}
 use Rattle.o32.specs.O32.{O32, area}
-use Rattle.placement.proofs.Bounds.{Numbers, refusal-bound, plan-bound, reading-long}
+use Rattle.o32_laws.proofs.Bounds.{Numbers, refusal-bound, plan-bound, reading-long}
 use Rattle.answers.specs.declared.Answer.{Answer}
 use Rattle.answers.specs.Answers.{answerOf, bufferOf, within, readWith, writeInto, readInto}
-use Rattle.saves.specs.declared.Request.{Request}
-use Rattle.saves.specs.Words.{prologueWords, epilogueWords}
-use Rattle.frame.specs.Code.{codeInto, prologueInto, epilogueInto}
+use Rattle.frame.specs.declared.Request.{Request}
+use Rattle.frame.specs.Words.{prologueWords, epilogueWords}
+use Rattle.frame_code.specs.Code.{codeInto, prologueInto, epilogueInto}
 use Rattle.capi.specs.declared.O32Answer.{O32Answer}
 use Rattle.capi.specs.Numbers.{narrow}
-use Rattle.frame.proofs.Longest.{code-nowhere, longest}
+use Rattle.frame_code.proofs.Longest.{code-nowhere, longest}
 
 -- of an answer as the code hands it on, and as the definitions give it
 abbrev Fits : Answer → Type 0

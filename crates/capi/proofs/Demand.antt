@@ -4,10 +4,10 @@ use mathlib.Core.Path.{_≡_, refl}
 use mathlib.Core.List.{[]}
 use Prim.Native.Nat.{ℕ}
 use lib.ListN.{replicate}
-use Rattle.placement.specs.Refusing.{Refusals}
-use Rattle.placement.specs.Demand.{Demand}
-use Rattle.placement.proofs.Refusals.{refusals}
-use Rattle.placement.proofs.Demand.{demand}
+use Rattle.o32_laws.specs.Refusing.{Refusals}
+use Rattle.o32_laws.specs.Demand.{Demand}
+use Rattle.o32_laws.proofs.Refusals.{refusals}
+use Rattle.o32_laws.proofs.Demand.{demand}
 use Rattle.capi.specs.Numbers.{deviceOf, functionsForC}
 
 -- A case, computed: the empty list into a buffer of 49 bytes has an image of 48.

@@ -10,8 +10,8 @@ use Rattle.answers.specs.declared.Answer.{Answer}
 use Rattle.answers.specs.Answers.{answerOf, bufferOf, readInto, writeInto}
 use Rattle.answers.specs.Demand.{Result, Functions}
 use Rattle.o32.specs.O32.{O32}
-use Rattle.saves.specs.declared.Request.{Request}
-use Rattle.saves.specs.declared.Layout.{Layout}
+use Rattle.frame.specs.declared.Request.{Request}
+use Rattle.frame.specs.declared.Layout.{Layout}
 use Rattle.capi.specs.declared.O32Answer.{O32Answer}
 use Rattle.capi.specs.declared.O32Layout.{O32Layout}
 

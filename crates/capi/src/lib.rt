@@ -4,12 +4,12 @@ ghost use Prim.Native.Nat.{_≤_};
 ghost use lib.ListN.{length};
 ghost use Rattle.o32.specs.O32.{O32};
 ghost use Rattle.answers.specs.Answers.{answerOf, bufferOf, readInto, writeInto};
-ghost use Rattle.saves.specs.Frame.{layoutOf};
-ghost use Rattle.frame.specs.Code.{epilogueInto, prologueInto};
+ghost use Rattle.frame.specs.Frame.{layoutOf};
+ghost use Rattle.frame_code.specs.Code.{epilogueInto, prologueInto};
 ghost use Rattle.capi.specs.Numbers.{deviceOf, layoutNumbers, narrow, requestOf};
 use answers::Answer;
 use device::Device;
-use saves::Request;
+use frame::Request;
 
 // A refusal, its place and its argument's number, or 0, 0, 0 and the length of what was written.
 #[repr(C)]
@@ -86,7 +86,7 @@ pub extern "C" fn o32_write(device: u32, list: &[u8], image: &mut [u8]) -> O32An
     ensures answer { λ r. ⌜ r ≡ narrow (answerOf (writeInto (O32 (deviceOf device)) (now (list .entry)) (length (now (image .entry))))) ⌝ }
     ensures buffer { λ _. ⌜ now (image .exit) ≡ bufferOf (writeInto (O32 (deviceOf device)) (now (list .entry)) (length (now (image .entry)))) (now (image .entry)) ⌝ }
 {
-    let answer = call::write(as_device(device), list, image);
+    let answer = o32_image::write(as_device(device), list, image);
     narrowed(answer)
 }
 
@@ -101,7 +101,7 @@ pub extern "C" fn o32_read(
     ensures answer { λ r. ⌜ r ≡ narrow (answerOf (readInto (O32 (deviceOf device)) (now (signature .entry)) (now (image .entry)) (length (now (list .entry))))) ⌝ }
     ensures buffer { λ _. ⌜ now (list .exit) ≡ bufferOf (readInto (O32 (deviceOf device)) (now (signature .entry)) (now (image .entry)) (length (now (list .entry)))) (now (list .entry)) ⌝ }
 {
-    let answer = call::read(as_device(device), signature, image, list);
+    let answer = o32_image::read(as_device(device), signature, image, list);
     narrowed(answer)
 }
 
@@ -118,7 +118,7 @@ pub extern "C" fn o32_frame(
     ensures { λ r. ⌜ r ≡ layoutNumbers (layoutOf (deviceOf device) (requestOf leaf locals outgoing general pairs)) ⌝ }
 {
     let request = as_request(leaf, locals, outgoing, general, pairs);
-    let layout = frame::layout_of(as_device(device), request);
+    let layout = frame_code::layout_of(as_device(device), request);
     O32Layout {
         refusal: layout.refusal,
         place: layout.place,
@@ -145,7 +145,7 @@ pub extern "C" fn o32_prologue(
     ensures buffer { λ _. ⌜ now (code .exit) ≡ bufferOf (prologueInto (deviceOf device) (requestOf leaf locals outgoing general pairs) (length (now (code .entry)))) (now (code .entry)) ⌝ }
 {
     let request = as_request(leaf, locals, outgoing, general, pairs);
-    let answer = frame::prologue(as_device(device), request, code);
+    let answer = frame_code::prologue(as_device(device), request, code);
     narrowed(answer)
 }
 
@@ -164,6 +164,6 @@ pub extern "C" fn o32_epilogue(
     ensures buffer { λ _. ⌜ now (code .exit) ≡ bufferOf (epilogueInto (deviceOf device) (requestOf leaf locals outgoing general pairs) (length (now (code .entry)))) (now (code .entry)) ⌝ }
 {
     let request = as_request(leaf, locals, outgoing, general, pairs);
-    let answer = frame::epilogue(as_device(device), request, code);
+    let answer = frame_code::epilogue(as_device(device), request, code);
     narrowed(answer)
 }

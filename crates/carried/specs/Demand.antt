@@ -1,5 +1,5 @@
 -- The carried-bytes theorem, as a statement about the writer and the reader of a convention, on lists of bytes: a step towards demand 3,
--- which is placement/specs/Demand.antt.
+-- which is o32_laws/specs/Demand.antt.
 use mathlib.Core.Path.{_≡_}
 use mathlib.Core.Bool.{true, false}
 use mathlib.Core.Logic.{_⊎_, _↔_}

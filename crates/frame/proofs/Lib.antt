@@ -1,5 +1,12 @@
-pub mod Bytes
-pub mod Answers
-pub mod Longest
-pub mod Link
-pub mod Cases
+pub mod Masks
+pub mod Accepted
+pub mod Saves
+pub mod Each
+pub mod Stores
+pub mod Loads
+pub mod Prologue
+pub mod Epilogue
+pub mod Collect
+pub mod Sound
+pub mod WordsIn
+pub mod Theorem

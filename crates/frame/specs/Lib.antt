@@ -1,2 +1,4 @@
-pub mod Code
-pub mod Longest
+pub mod Masks
+pub mod Frame
+pub mod Words
+pub mod Demand

@@ -1,225 +1,31 @@
-// Frames: the layout of a request, its prologue and its epilogue.
-ghost use mathlib.Core.Bool.{cond, false};
-ghost use mathlib.Core.List.{map};
-ghost use mathlib.Core.Path.{_≡_};
-ghost use Prim.Native.Nat.{_*_, _+_, _-_, _<_, _≤_};
-ghost use lib.ListN.{length};
-ghost use lib.Seq.{sets};
-ghost use Rattle.words.specs.Words.{up};
-ghost use Rattle.answers.specs.Answers.{answerOf, bufferOf};
-ghost use Rattle.saves.specs.Frame.{buildFor, floatingAt, generalAt, layoutOf, outside, overfull, pairsWithoutUnit, refusalOf, unreturning};
-ghost use Rattle.saves.specs.Words.{bytesOfWords, savesOf, slotFor, wordOf};
-ghost use Rattle.frame.specs.Code.{epilogueInto, prologueInto};
-use answers::Answer;
-use device::Device;
-use saves::Layout;
-use saves::Request;
+// Frames: the data that the definitions in specs/ speak of. There is no code here.
 
-// Refusal 9: a general register that may not be saved, or a pair mask above 63.
-fn is_outside(request: Request) -> bool
-    ensures { λ r. ⌜ r ≡ outside request ⌝ }
-{
-    let general = request.general;
-    if general & 0xC0FF_0000 != general {
-        return true;
-    }
-    request.pairs > 63
+// What a routine asks of its frame.
+pub struct Request {
+    // whether it calls nothing
+    pub leaf: bool,
+    // bytes of locals
+    pub locals: u32,
+    // bytes of outgoing arguments
+    pub outgoing: u32,
+    // the general registers to save: bit k is `$k`
+    pub general: u32,
+    // the floating pairs to save: bit k is `$f20` + 2k and the next
+    pub pairs: u32,
 }
 
-// Refusal 14: pairs to save on a device without a floating-point unit.
-fn has_pairs_without_unit(device: Device, request: Request) -> bool
-    ensures { λ r. ⌜ r ≡ pairsWithoutUnit device request ⌝ }
-{
-    let Device::NoFpu = device else {
-        return false;
-    };
-    request.pairs != 0
-}
-
-// Refusal 10: not a leaf, and `$31` not named.
-fn is_unreturning(request: Request) -> bool
-    ensures { λ r. ⌜ r ≡ unreturning request ⌝ }
-{
-    if request.leaf {
-        return false;
-    }
-    request.general / 0x8000_0000 % 2 != 1
-}
-
-// Refusal 12: too many bytes of outgoing arguments, or any in a leaf.
-fn is_overfull(request: Request) -> bool
-    ensures { λ r. ⌜ r ≡ overfull request ⌝ }
-{
-    if request.outgoing > 1024 {
-        return true;
-    }
-    if request.leaf {
-        return request.outgoing != 0;
-    }
-    false
-}
-
-// The number of the refusal of a request on a device, 0 for none. Nothing is added up before all is in its limits.
-fn refusal(device: Device, request: Request) -> u32
-    ensures { λ r. ⌜ r ≡ refusalOf device request ⌝ }
-{
-    let outside = is_outside(request);
-    let without_unit = has_pairs_without_unit(device, request);
-    let unreturning = is_unreturning(request);
-    let overfull = is_overfull(request);
-    if outside {
-        return 9;
-    }
-    if without_unit {
-        return 14;
-    }
-    if unreturning {
-        return 10;
-    }
-    if request.locals > 16384 {
-        return 11;
-    }
-    if overfull {
-        return 12;
-    }
-    0
-}
-
-fn round_up(n: u32) -> u32
-    requires { ⌜ n ≤ 20000 ⌝ }
-    ensures { λ r. ⌜ r ≡ up 8 n ⌝ }
-{
-    (n + 7) / 8 * 8
-}
-
-// The bytes of the argument build area.
-fn build_area(leaf: bool, outgoing: u32) -> u32
-    requires { ⌜ outgoing ≤ 1024 ⌝ }
-    ensures { λ r. ⌜ r ≡ buildFor leaf outgoing ⌝ }
-{
-    if leaf {
-        return 0;
-    }
-    let rounded = round_up(outgoing);
-    if rounded < 16 { 16 } else { rounded }
-}
-
-// The frame of a request on a device.
-pub fn layout_of(device: Device, request: Request) -> Layout
-    ensures { λ r. ⌜ r ≡ layoutOf device request ⌝ }
-{
-    let number = refusal(device, request);
-    if number != 0 {
-        return Layout {
-            refusal: number,
-            place: 0,
-            frame: 0,
-            build: 0,
-            floating: 0,
-            general: 0,
-            locals: 0,
-        };
-    }
-    let build = build_area(request.leaf, request.outgoing);
-    let general = build + 8 * u32::count_ones(request.pairs);
-    let locals = general + round_up(4 * u32::count_ones(request.general));
-    Layout {
-        refusal: 0,
-        place: 0,
-        frame: round_up(locals + request.locals),
-        build,
-        floating: build,
-        general,
-        locals,
-    }
-}
-
-// The bytes of one instruction for each register that a request names, two for a pair; its masks are not refused 9.
-fn saves_length(request: Request) -> usize
-    requires { ⌜ outside request ≡ false ⌝ }
-    ensures { λ r. ⌜ (r ≡ 4 * length (savesOf request)) × (r ≤ 88) ⌝ }
-{
-    (8 * u32::count_ones(request.pairs) + 4 * u32::count_ones(request.general)) as usize
-}
-
-// One instruction for each save word of a request, by its layout, from a place on; the place behind them. fop and gop are the
-// instruction's word for floating and for general registers, with register 0 and offset 0.
-fn put_saves(
-    out: &mut [u8],
-    at: usize,
-    fop: u32,
-    gop: u32,
-    request: Request,
-    layout: Layout,
-) -> usize
-    requires { ⌜ (outside request ≡ false) × (fop ≤ 0xE7A00000) × (gop ≤ 0xE7A00000) ⌝ }
-    requires { ⌜ (layout .floating ≡ floatingAt request) × (layout .general ≡ generalAt request) ⌝ }
-    requires { ⌜ (layout .floating ≤ 4096) × (layout .general ≤ 4096) ⌝ }
-    requires { ⌜ at + 4 * length (savesOf request) ≤ length (now out) ⌝ }
-    ensures { λ r. ⌜ r ≡ at + 4 * length (savesOf request) ⌝ }
-    ensures { λ _. ⌜ now (out .exit) ≡ sets (now (out .entry)) at (bytesOfWords (map (λ v. wordOf (cond (v .float) fop gop) v) (savesOf request))) ⌝ }
-{
-    let behind = emit::put_pairs(out, at, fop, request.pairs, layout.floating);
-    emit::put_registers(out, behind, gop, request.general, layout.general)
-}
-
-// The low 16 bits of -f, through a signed halfword.
-fn negated(f: u32) -> u32
-    requires { ⌜ (0 < f) × (f ≤ 17496) ⌝ }
-    ensures { λ r. ⌜ r ≡ 65536 - f ⌝ }
-{
-    let n = -(f as i16);
-    ((n as i32) + 65536) as u32
-}
-
-// The prologue of a request on a device. Refusals 9, 14, 10, 11 and 12, then 13; no byte is stored before all are decided.
-pub fn prologue(device: Device, request: Request, out: &mut [u8]) -> Answer
-    ensures answer { λ r. ⌜ r ≡ answerOf (prologueInto device request (length (now (out .entry)))) ⌝ }
-    ensures buffer { λ _. ⌜ now (out .exit) ≡ bufferOf (prologueInto device request (length (now (out .entry)))) (now (out .entry)) ⌝ }
-{
-    let layout = layout_of(device, request);
-    let number = layout.refusal;
-    if number != 0 {
-        return answers::reply(number, 0, 0, 0);
-    }
-    let frame = layout.frame;
-    if frame == 0 {
-        return answers::reply(0, 0, 0, 0);
-    }
-    let length = 4 + saves_length(request);
-    if out.len() < length { // all of it, before the first store
-        return answers::reply(13, 0, 0, 0);
-    }
-    words::write_word(out, 0, 0x27BD_0000 + negated(frame));
-    put_saves(out, 4, 0xE7A0_0000, 0xAFA0_0000, request, layout);
-    answers::reply(0, 0, 0, length)
-}
-
-// The word in the delay slot: `addiu $sp,$sp,f`, or 00000000 where there is no frame.
-fn delay_slot(f: u32) -> u32
-    requires { ⌜ f ≤ 17496 ⌝ }
-    ensures { λ r. ⌜ r ≡ slotFor f ⌝ }
-{
-    if f == 0 { 0 } else { 0x27BD_0000 + f }
-}
-
-// The epilogue of a request on a device, likewise.
-pub fn epilogue(device: Device, request: Request, out: &mut [u8]) -> Answer
-    ensures answer { λ r. ⌜ r ≡ answerOf (epilogueInto device request (length (now (out .entry)))) ⌝ }
-    ensures buffer { λ _. ⌜ now (out .exit) ≡ bufferOf (epilogueInto device request (length (now (out .entry)))) (now (out .entry)) ⌝ }
-{
-    let layout = layout_of(device, request);
-    let number = layout.refusal;
-    if number != 0 {
-        return answers::reply(number, 0, 0, 0);
-    }
-    let length = saves_length(request) + 8;
-    if out.len() < length {
-        return answers::reply(13, 0, 0, 0);
-    }
-    let slot = delay_slot(layout.frame);
-    let last = put_saves(out, 0, 0xC7A0_0000, 0x8FA0_0000, request, layout);
-    words::write_word(out, last, 0x03E0_0008);
-    words::write_word(out, last + 4, slot);
-    answers::reply(0, 0, 0, length)
+// A frame: a refusal, place 0 and all numbers 0, or 0, 0 and the frame's numbers; offsets are from `$sp`.
+pub struct Layout {
+    pub refusal: u32,
+    pub place: u32,
+    // F, the bytes of the frame
+    pub frame: u32,
+    // B, the bytes of the argument build area
+    pub build: u32,
+    // where the floating save area starts
+    pub floating: u32,
+    // where the general save area starts
+    pub general: u32,
+    // where the locals start
+    pub locals: u32,
 }

@@ -17,8 +17,8 @@ use answers::Answer;
 use device::Device;
 use libc::STDIN_FILENO;
 use libc::STDOUT_FILENO;
-use saves::Layout;
-use saves::Request;
+use frame::Layout;
+use frame::Request;
 
 // A text to standard output. Of what is printed the language has nothing to promise.
 fn print(text: &[u8]) {
@@ -32,7 +32,7 @@ fn malformed() {
 
 fn show(answer: Answer, out: &[u8; 4096]) {
     let mut text = [0u8; 16504];
-    let n = shown::answer_text(answer, out, &mut text);
+    let n = case_output::answer_text(answer, out, &mut text);
     print(&text[..n]);
 }
 
@@ -76,15 +76,15 @@ fn request_in(words: &[u8]) -> Request
 // The prologue or, where control goes back, the epilogue of a request.
 fn code_of(device: Device, request: Request, back: bool, out: &mut [u8]) -> Answer {
     if back {
-        return frame::epilogue(device, request, out);
+        return frame_code::epilogue(device, request, out);
     }
-    frame::prologue(device, request, out)
+    frame_code::prologue(device, request, out)
 }
 
 fn show_code(room: usize, device: Device, request: Request, back: bool)
     requires { ⌜ room ≤ 4096 ⌝ }
 {
-    let mut out = shown::fresh();
+    let mut out = case_output::fresh();
     let answer = code_of(device, request, back, &mut out[..room]);
     show(answer, &out);
 }
@@ -93,10 +93,10 @@ fn show_code(room: usize, device: Device, request: Request, back: bool)
 fn run(line: &[u8])
     requires { ⌜ 1 ≤ length (now line) ⌝ }
 {
-    let device = lines::device_of(line);
-    let room = lines::room(line);
+    let device = case_input::device_of(line);
+    let room = case_input::room(line);
     let mut words = io::buffer();
-    let n = lines::bytes(line, room.end, line.len(), &mut words);
+    let n = case_input::bytes(line, room.end, line.len(), &mut words);
     if n != 20 {
         return malformed();
     }
@@ -104,7 +104,7 @@ fn run(line: &[u8])
         return malformed();
     }
     let request = request_in(&words);
-    print_layout(frame::layout_of(device, request));
+    print_layout(frame_code::layout_of(device, request));
     print(b"prologue\n");
     show_code(room.value, device, request, false);
     print(b"epilogue\n");
@@ -121,9 +121,9 @@ fn main() {
     let n = io::read_full(STDIN_FILENO, &mut text);
     let mut at = 0;
     while at < n {
-        let end = lines::find(&text[..n], at, b'\n');
+        let end = case_input::find(&text[..n], at, b'\n');
         print_line(&text[at..end]);
-        if lines::is_case(&text[at..end]) {
+        if case_input::is_case(&text[at..end]) {
             run(&text[at..end]);
         }
         at = end + 1;

@@ -11,7 +11,7 @@ use borrow.Author.Tests.{le-leb, leb-true}
 use Rattle.o32.specs.declared.Class.the-variants.{Plain}
 use Rattle.o32.specs.declared.Kind.{Kind}
 use Rattle.o32.specs.Kinds.{Row, row, table, look, kindOf}
-use Rattle.placement.proofs.KindFacts.{endBelow, look-past, look-before}
+use Rattle.o32_laws.proofs.KindFacts.{endBelow, look-past, look-before}
 
 pub single : (k j : ℕ) (r : Kind) → k ≡ j → r ≡ kindOf j → r ≡ kindOf k
 single k j r e h = h ∙ ap kindOf (sym e)

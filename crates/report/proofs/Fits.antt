@@ -17,8 +17,8 @@ use Rattle.o32.specs.declared.State.{State}
 use Rattle.o32.specs.O32.{O32, area}
 use Rattle.answers.specs.declared.Answer.{Answer}
 use Rattle.answers.specs.Answers.{answerOf, bufferOf, within, writeInto}
-use Rattle.placement.proofs.Bounds.{refusal-bound, plan-bound}
-use Rattle.placement.proofs.Refusing.{by-record, refused-exactly}
+use Rattle.o32_laws.proofs.Bounds.{refusal-bound, plan-bound}
+use Rattle.o32_laws.proofs.Refusing.{by-record, refused-exactly}
 use Rattle.text.specs.Text.{answered, stored, imageText, refusalText}
 use Rattle.text.proofs.Decimal.{refusal-few}
 use Rattle.text.proofs.Written.{lines-length}

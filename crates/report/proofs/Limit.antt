@@ -18,9 +18,9 @@ use Rattle.o32.specs.declared.State.{State}
 use Rattle.o32.specs.declared.Placement.{Placement}
 use Rattle.o32.specs.Kinds.{kindOf}
 use Rattle.o32.specs.O32.{O32}
-use Rattle.placement.proofs.Bounds.{refusal-bound, plan-bound}
-use Rattle.placement.proofs.KindFacts.{kind-sound}
-use Rattle.placement.proofs.Steps.{step-says}
+use Rattle.o32_laws.proofs.Bounds.{refusal-bound, plan-bound}
+use Rattle.o32_laws.proofs.KindFacts.{kind-sound}
+use Rattle.o32_laws.proofs.Steps.{step-says}
 use Rattle.report.specs.Report.{textOf, reportText, readLimit, ReadLimit}
 
 -- with 512 bytes or more behind a kind byte, it does not matter how many

@@ -3,8 +3,8 @@
 use mathlib.Core.Path.{ap₂}
 use lib.ListN.{length}
 use Rattle.device.specs.declared.Device.{Device}
-use Rattle.saves.specs.declared.Request.{Request}
-use Rattle.frame.specs.Code.{epilogueInto}
+use Rattle.frame.specs.declared.Request.{Request}
+use Rattle.frame_code.specs.Code.{epilogueInto}
 use Rattle.capi.proofs.Bounds.{epilogue-fits, handed}
 use borrow.Author.Needs.{needs}
 use Rattle.capi.proofs.o32_epilogue.Statement.{statement}

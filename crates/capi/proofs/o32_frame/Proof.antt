@@ -1,7 +1,7 @@
 -- `o32_frame` meets its contract: the layout of the request that C hands over.
 -- Assumes nothing.
 use mathlib.Core.Path.{ap, ap₂, _∙_}
-use Rattle.saves.specs.Frame.{layoutOf}
+use Rattle.frame.specs.Frame.{layoutOf}
 use Rattle.capi.specs.Numbers.{layoutNumbers}
 use borrow.Author.Needs.{needs}
 use Rattle.capi.proofs.o32_frame.Statement.{statement}

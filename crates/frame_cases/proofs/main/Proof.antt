@@ -5,7 +5,7 @@ use mathlib.Core.List.{List}
 use Prim.Native.Nat.{ℕ, _-_}
 use native.Mathlib.Omega.{arith}
 use lib.ListN.{take, drop}
-use Rattle.lines.proofs.Laws.{case-long}
+use Rattle.case_input.proofs.Laws.{case-long}
 use Rattle.frame_cases.proofs.main.Statement.{statement}
 use Rattle.frame_cases.proofs.main.Tie as tie
 

@@ -1,0 +1,73 @@
+-- The frame of a request on a device: what is refused, and where everything lies ("Frames"). Only refusal 14 looks at the device.
+use mathlib.Core.List.{[], _∷_}
+use mathlib.Core.Bool.{Bool, false, cond, not, _&&_, _||_}
+use Prim.Native.Nat.{ℕ, _+_, _*_, max}
+use lib.Bits.{bitAnd}
+use lib.Dec.{eqb, ltb}
+use Rattle.words.specs.Words.{up}
+use Rattle.device.specs.declared.Device.{Device}
+use Rattle.device.specs.declared.Device.the-variants.{Fpu, NoFpu}
+use Rattle.frame.specs.declared.Request.{Request}
+use Rattle.frame.specs.declared.Layout.{Layout}
+use Rattle.frame.specs.Masks.{named, below, maskOf}
+
+-- The general registers that may be saved: "`$16`..`$23`, `$30`, `$31`".
+abbrev pub savable : ℕ
+savable = maskOf (16 ∷ 17 ∷ 18 ∷ 19 ∷ 20 ∷ 21 ∷ 22 ∷ 23 ∷ 30 ∷ 31 ∷ [])
+
+-- "9: general mask outside `$16`..`$23`, `$30`, `$31`, or pair mask above 63".
+abbrev pub outside : Request → Bool
+outside r = not (eqb (bitAnd (r .general) savable) (r .general)) || ltb 63 (r .pairs)
+
+-- Request (ii) of document 02. "14, pair mask not 0 on this device, directly after 9": on the one without a floating-point unit.
+abbrev pub pairsWithoutUnit : Device → Request → Bool
+pairsWithoutUnit Fpu r = false
+pairsWithoutUnit NoFpu r = not (eqb (r .pairs) 0)
+
+-- "10: not a leaf and `$31` not named".
+abbrev pub unreturning : Request → Bool
+unreturning r = not (r .leaf) && not (named (r .general) 31)
+
+-- "12: outgoing above 1,024, or not 0 in a leaf".
+abbrev pub overfull : Request → Bool
+overfull r = ltb 1024 (r .outgoing) || (r .leaf && not (eqb (r .outgoing) 0))
+
+-- "Checks in this order": the refusal's number, 0 for none. Between them "11: L above 16,384".
+unfoldable pub refusalOf : Device → Request → ℕ
+refusalOf d r =
+    cond (outside r) 9
+    (cond (pairsWithoutUnit d r) 14
+    (cond (unreturning r) 10
+    (cond (ltb 16384 (r .locals)) 11
+    (cond (overfull r) 12 0))))
+
+-- "B is outgoing rounded up to 8, at least 16 in a non-leaf, 0 in a leaf."
+abbrev pub buildFor : Bool → ℕ → ℕ
+buildFor leaf outgoing = cond leaf 0 (max 16 (up 8 outgoing))
+
+abbrev pub buildOf : Request → ℕ
+buildOf r = buildFor (r .leaf) (r .outgoing)
+
+-- "From `$sp` upward: argument build area B, the floating save area, the general save area, locals .. an empty area's offset
+-- being the end of the one below."
+abbrev pub floatingAt : Request → ℕ
+floatingAt r = buildOf r
+
+-- "a pair takes 8".
+unfoldable pub generalAt : Request → ℕ
+generalAt r = floatingAt r + 8 * below (r .pairs) 6
+
+-- "The general area has four bytes for each register named in the mask, rounded up to 8".
+unfoldable pub localsAt : Request → ℕ
+localsAt r = generalAt r + up 8 (4 * below (r .general) 32)
+
+-- "The frame F is the end of locals rounded up to 8".
+unfoldable pub frameOf : Request → ℕ
+frameOf r = up 8 (localsAt r + r .locals)
+
+-- "The layout answers F, B and the offsets of the floating save area, the general save area and the locals"; on a refusal
+-- "Place is 0, .. and the layout's numbers are all 0."
+unfoldable pub layoutOf : Device → Request → Layout
+layoutOf d r = cond (eqb (refusalOf d r) 0)
+    (record { refusal = 0; place = 0; frame = frameOf r; build = buildOf r; floating = floatingAt r; general = generalAt r; locals = localsAt r })
+    (record { refusal = refusalOf d r; place = 0; frame = 0; build = 0; floating = 0; general = 0; locals = 0 })

@@ -1,0 +1,5 @@
+pub mod Bytes
+pub mod Answers
+pub mod Longest
+pub mod Link
+pub mod Cases

@@ -1,0 +1,120 @@
+-- `read` meets its contract: each refusal in its order, or the list.
+-- Assumes nothing.
+use mathlib.Core.Path.{sym, _∙_}
+use mathlib.Core.Bool.{false}
+use Rattle.o32_image.proofs.Writing.{end-in-bounds}
+use Rattle.o32_image.proofs.Reading.{Found, found, read-refused, read-wrong, read-short, read-room, read-improper, read-done}
+use borrow.Author.Needs.{needs}
+use Rattle.o32_image.proofs.read.Statement.{statement}
+use Rattle.o32_image.proofs.read.Tie as tie
+
+measure-signature-requires : tie.Need-measure-signature-requires
+measure-signature-requires c κs = search needs
+
+enum-known-found : tie.Need-enum-known-found
+enum-known-found c = search needs
+
+enum-told : tie.Need-enum-told
+enum-told c = search needs
+
+refused-requires : tie.Need-refused-requires
+refused-requires c κs = search needs
+
+returns : tie.Need-returns
+returns c =
+    let s = c .before .before .before .before .before .before .before .args in
+    let r = read-refused (s .device) (s .signature .now) (s .image .now) (s .out .now) (c .before .before .before .measure-signature .result) _ _ _ (c .refused .result) (c .before .before .before .measure-signature .ensures (s .device)) (c .before .enum-told .given .1) (c .refused .ensures) in
+    (r .answer, r .buffer)
+
+image-length-requires : tie.Need-image-length-requires
+image-length-requires c κs =
+    let s = c .before .before .before .before .before .before .before .args in
+    end-in-bounds (s .device) false (s .signature .now) _ _ (sym (c .before .found .given .1) ∙ c .before .before .before .measure-signature .ensures (s .device))
+
+reply-requires : tie.Need-reply-requires
+reply-requires c κs = search needs
+
+returns-2 : tie.Need-returns-2
+returns-2 c =
+    let s = c .before .before .before .before .before .before .before .before .before .before .args in
+    let r = read-wrong (s .device) (s .signature .now) (s .image .now) (s .out .now) _ (c .before .before .before .before .found .given .0 .1 .0) (c .before .before .image-length .result) (sym (c .before .before .before .before .found .given .1) ∙ c .before .before .before .before .before .before .measure-signature .ensures (s .device)) (c .before .before .image-length .ensures) (c .before .if1 .taken) in
+    (c .reply .ensures ∙ r .answer, r .buffer)
+
+-- the signature is accepted, and the image is as long as it says
+accepted : (c : tie.Else1) → (let s = c .before .before .before .before .before .before .before .before .before .args in
+    Found (s .device) (s .signature .now) (s .image .now) (c .before .before .before .found .given .0 .0))
+accepted c =
+    let s = c .before .before .before .before .before .before .before .before .before .args in
+    let m = c .before .before .before in
+    found (s .device) (s .signature .now) (s .image .now) (m .found .given .0 .0) (m .found .given .0 .1 .0) (c .before .image-length .result)
+    (sym (m .found .given .1) ∙ m .before .before .measure-signature .ensures (s .device)) (c .before .image-length .ensures) (c .if1 .left)
+
+reply-requires-2 : tie.Need-reply-requires-2
+reply-requires-2 c κs = search needs
+
+returns-3 : tie.Need-returns-3
+returns-3 c =
+    let s = c .before .before .before .before .before .before .before .before .before .before .before .args in
+    let r = read-short (s .device) (s .signature .now) (s .image .now) (s .out .now) _ (accepted (c .before .before)) (c .before .if2 .taken) in
+    (c .reply2 .ensures ∙ r .answer, r .buffer)
+
+deliver-requires : tie.Need-deliver-requires
+deliver-requires c κs =
+    let s = c .before .before .before .before .before .before .before .before .before .before .before .args in
+    (accepted (c .before .before) .readable, read-room (s .device) (s .signature .now) (s .image .now) (s .out .now) _ (accepted (c .before .before)) (c .before .if2 .left))
+
+enum-told-2 : tie.Need-enum-told-2
+enum-told-2 c = search needs
+
+enum-told-3 : tie.Need-enum-told-3
+enum-told-3 c = search needs
+
+improper-requires : tie.Need-improper-requires
+improper-requires c κs = search needs
+
+same-length : tie.Need-same-length
+same-length c = search needs
+
+returns-4 : tie.Need-returns-4
+returns-4 c =
+    let s = c .before .before .before .before .before .before .before .before .before .before .before .before .before .before .before .before .before .args in
+    let v = accepted (c .before .before .before .before .before .before .before .before) in
+    let r = read-improper (s .device) (s .signature .now) (s .image .now) (s .out .now) _ v (c .before .before .before .before .before .before .before .if2 .left) (c .before .before .before .before .before .deliver .result) _ (c .before .before .before .before .before .deliver .ensures .0) (c .before .before .before .before .before .deliver .ensures .1) _ _ (c .improper .result) (c .before .enum-told3 .given .1) (c .improper .ensures) in
+    (r .answer, r .buffer)
+
+reply-requires-3 : tie.Need-reply-requires-3
+reply-requires-3 c κs = search needs
+
+same-length-2 : tie.Need-same-length-2
+same-length-2 c = search needs
+
+returns-5 : tie.Need-returns-5
+returns-5 c =
+    let s = c .before .before .before .before .before .before .before .before .before .before .before .before .before .before .before .before .before .args in
+    let v = accepted (c .before .before .before .before .before .before .before .before) in
+    let r = read-done (s .device) (s .signature .now) (s .image .now) (s .out .now) _ v (c .before .before .before .before .before .before .before .if2 .left) (c .before .before .before .before .before .deliver .result) _ (c .before .before .before .before .before .deliver .ensures .0) (c .before .before .before .before .before .deliver .ensures .1) (c .before .enum-told2 .given .1) in
+    (c .reply3 .ensures ∙ r .answer, r .buffer)
+
+pub read-spec : {M : Type 1} → statement M
+read-spec =
+    tie.close
+    (tie.spec
+    measure-signature-requires
+    enum-known-found
+    enum-told
+    refused-requires
+    returns
+    image-length-requires
+    reply-requires
+    returns-2
+    reply-requires-2
+    returns-3
+    deliver-requires
+    enum-told-2
+    enum-told-3
+    improper-requires
+    same-length
+    returns-4
+    reply-requires-3
+    same-length-2
+    returns-5)

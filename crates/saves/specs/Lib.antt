@@ -1,4 +1,0 @@
-pub mod Masks
-pub mod Frame
-pub mod Words
-pub mod Demand
