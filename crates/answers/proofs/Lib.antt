@@ -1,3 +1,1 @@
-pub mod Buffers
-pub mod Demand
-pub mod Refusals
+pub mod Cases

@@ -10,78 +10,81 @@ use lib.ListN.{length, length-append}
 use lib.Dec.{eqb, ltb}
 use Rattle.words.specs.Words.{body, proper}
 use Rattle.device.specs.declared.Device.{Device}
-use Rattle.carried.specs.Image as C
-use Rattle.carried.specs.Image.{Placed, gather, reading}
-use Rattle.carried.specs.Convention.{Plan, bad, good, plan, written, write}
+use Rattle.answers.specs.Outcomes.{Outcome, done, refused, checkRoom, answerOf, bufferOf}
+use Rattle.carried.specs.Image.{checked, image, reading, Placed}
+use Rattle.places.specs.Places.{gather}
+use Rattle.carried.specs.Convention.{Plan, stopped, complete, plan, writePlan, readPlan, writeInto, readInto}
 use Rattle.carried.proofs.Readings.{image-length}
 use Rattle.o32.specs.declared.State.{State}
-use Rattle.o32.specs.O32.{O32, area}
+use Rattle.o32.specs.O32.{O32, imageSize}
 use Rattle.o32_laws.proofs.Bounds.{Numbers, refusal-bound, plan-bound, reading-long}
 use Rattle.answers.specs.declared.Answer.{Answer}
-use Rattle.answers.specs.Answers.{answerOf, bufferOf, within, readWith, writeInto, readInto}
 use Rattle.frame.specs.declared.Request.{Request}
 use Rattle.frame.specs.Words.{prologueWords, epilogueWords}
 use Rattle.frame_code.specs.Code.{codeInto, prologueInto, epilogueInto}
 use Rattle.capi.specs.declared.O32Answer.{O32Answer}
 use Rattle.capi.specs.Numbers.{narrow}
-use Rattle.frame_code.proofs.Longest.{code-nowhere, longest}
+use Rattle.frame_code.proofs.Longest.{code-place-zero, longest}
 
 -- of an answer as the code hands it on, and as the definitions give it
 abbrev Fits : Answer → Type 0
 Fits a = (a .place ≤ 1057) × (a .argument ≤ 33) × (a .length ≤ 1057)
 
-abbrev Bounded : C.Answer → Type 0
-Bounded (C.refused r at j) = (at ≤ 1057) × (j ≤ 33)
-Bounded (C.done x) = length x ≤ 1057
+abbrev Bounded : Outcome → Type 0
+Bounded (refused r at j) = (at ≤ 1057) × (j ≤ 33)
+Bounded (done x) = length x ≤ 1057
 
-fits : {a : Answer} (x : C.Answer) → Bounded x → a ≡ answerOf x → Fits a
-fits (C.refused r at j) h e = rw e (h .0, h .1, omega arith)
-fits (C.done x) h e = rw e (omega arith, omega arith, h)
+fits : {a : Answer} (x : Outcome) → Bounded x → a ≡ answerOf x → Fits a
+fits (refused r at j) h e = rw e (h .0, h .1, omega arith)
+fits (done x) h e = rw e (omega arith, omega arith, h)
 
 -- a refusal at place 0, of no argument
 nowhere : (0 ≤ 1057) × (0 ≤ 33)
 nowhere = (omega arith, omega arith)
 
-within-bounded : (number room : ℕ) (x : C.Answer) → Bounded x → Bounded (within number room x)
-within-bounded number room (C.refused r at j) h = h
-within-bounded number room (C.done x) h = go (ltb room (length x))
+room-bounded : (number room n : ℕ) (x : Outcome) → Bounded x → Bounded (checkRoom number room n x)
+room-bounded number room n x h = go (ltb room n)
   where
-    go : (t : Bool) → Bounded (cond t (C.refused number 0 0) (C.done x))
+    go : (t : Bool) → Bounded (cond t (refused number 0 0) x)
     go true = nowhere
     go false = h
 
 -- ---- the writer
 
-write-bounded : (d : Device) (list : List ℕ) (q : Plan State) → plan (O32 d) true list ≡ q → Bounded (written (O32 d) list q)
-write-bounded d list (bad r at j) e = refusal-bound d true list r at j e
-write-bounded d list (good L last) e = omega (arith, image-length (32 + area (last .end)) L list, plan-bound d true list L last e .fits)
+write-bounded : (d : Device) (list : List ℕ) (room : ℕ) (q : Plan State) → plan (O32 d) true list ≡ q → Bounded (writePlan (O32 d) (checkRoom 7 room) list q)
+write-bounded d list room (stopped r at j) e = refusal-bound d true list r at j e
+write-bounded d list room (complete L last) e =
+    let x : List ℕ = image (imageSize (last .end)) L list in
+    room-bounded 7 room (length x) (done x) (omega (arith, image-length (imageSize (last .end)) L list, plan-bound d true list L last e .fits))
 
 pub write-fits : {a : Answer} (d : Device) (list : List ℕ) (room : ℕ) → a ≡ answerOf (writeInto (O32 d) list room) → Fits a
-write-fits d list room e = fits (writeInto (O32 d) list room) (within-bounded 7 room (write (O32 d) list) (write-bounded d list (plan (O32 d) true list) refl)) e
+write-fits d list room e = fits (writeInto (O32 d) list room) (write-bounded d list room (plan (O32 d) true list) refl) e
 
 -- ---- the reader
 
 -- refusal 8 counts kinds, and a reading has a byte for each
-checked-bounded : (L : List Placed) (img : List ℕ) (at : ℕ) (x : C.Answer) → at + length (reading L img) ≤ 1057 → Numbers L → Bounded x → Bounded (C.checked at L img x)
+checked-bounded : (L : List Placed) (img : List ℕ) (at : ℕ) (x : Outcome) → at + length (reading L img) ≤ 1057 → Numbers L → Bounded x → Bounded (checked 8 at L img x)
 checked-bounded [] img at x h n b = b
 checked-bounded (s ∷ L) img at x h n b =
     go (proper (s .extension) (s .size) (gather img (s .carriers)))
     (checked-bounded L img (suc at) x (omega (arith, length-append (body (s .size) (gather img (s .carriers))) (reading L img))) (n .1) b)
   where
-    go : (t : Bool) → Bounded (C.checked (suc at) L img x) → Bounded (cond t (C.checked (suc at) L img x) (C.refused 8 at (s .argument)))
+    go : (t : Bool) → Bounded (checked 8 (suc at) L img x) → Bounded (cond t (checked 8 (suc at) L img x) (refused 8 at (s .argument)))
     go true w = w
     go false w = (omega arith, n .0)
 
-read-bounded : (d : Device) (sig img : List ℕ) (room : ℕ) (q : Plan State) → plan (O32 d) false sig ≡ q → Bounded (readWith (O32 d) img room q)
-read-bounded d sig img room (bad r at j) e = refusal-bound d false sig r at j e
-read-bounded d sig img room (good L last) e = go (eqb (length img) (32 + area (last .end))) (ltb room (length (reading L img)))
+read-bounded : (d : Device) (sig img : List ℕ) (room : ℕ) (q : Plan State) → plan (O32 d) false sig ≡ q → Bounded (readPlan (O32 d) (checkRoom 7 room) img q)
+read-bounded d sig img room (stopped r at j) e = refusal-bound d false sig r at j e
+read-bounded d sig img room (complete L last) e = go (eqb (length img) (imageSize (last .end)))
   where
-    go : (t u : Bool) → Bounded (cond t (cond u (C.refused 7 0 0) (C.checked 0 L img (C.done (reading L img)))) (C.refused 6 0 0))
-    go true true = nowhere
-    go true false =
+    last-bounded : Bounded (checked 8 0 L img (done (reading L img)))
+    last-bounded =
         let l : length (reading L img) ≤ 1057 = reading-long d sig img L last e in
-        checked-bounded L img 0 (C.done (reading L img)) (omega arith) (plan-bound d false sig L last e .numbers) l
-    go false u = nowhere
+        checked-bounded L img 0 (done (reading L img)) (omega arith) (plan-bound d false sig L last e .numbers) l
+
+    go : (t : Bool) → Bounded (cond t (checkRoom 7 room (length (reading L img)) (checked 8 0 L img (done (reading L img)))) (refused 6 0 0))
+    go true = room-bounded 7 room (length (reading L img)) (checked 8 0 L img (done (reading L img))) last-bounded
+    go false = nowhere
 
 pub read-fits : {a : Answer} (d : Device) (sig img : List ℕ) (room : ℕ) → a ≡ answerOf (readInto (O32 d) sig img room) → Fits a
 read-fits d sig img room e = fits (readInto (O32 d) sig img room) (read-bounded d sig img room (plan (O32 d) false sig) refl) e
@@ -89,7 +92,7 @@ read-fits d sig img room e = fits (readInto (O32 d) sig img room) (read-bounded 
 -- ---- the code of a frame
 
 code-fits : {a : Answer} (d : Device) (r : Request) (ws : List ℕ) (room : ℕ) → answerOf (codeInto d r ws room) .length ≤ 1057 → a ≡ answerOf (codeInto d r ws room) → Fits a
-code-fits d r ws room h e = let z = code-nowhere d r ws room in rw e (omega (arith, z .0), omega (arith, z .1), h)
+code-fits d r ws room h e = let z = code-place-zero d r ws room in rw e (omega (arith, z .0), omega (arith, z .1), h)
 
 pub prologue-fits : {a : Answer} (d : Device) (r : Request) (room : ℕ) → a ≡ answerOf (prologueInto d r room) → Fits a
 prologue-fits d r room e = code-fits d r (prologueWords r) room (omega (arith, longest .prologue .bound d r room)) e
@@ -99,6 +102,6 @@ epilogue-fits d r room e = code-fits d r (epilogueWords r) room (omega (arith, l
 
 -- ---- what C gets, and what stands in its buffer, where the function was called with what C's numbers say
 
-pub handed : {A : Type 0} (into : A → C.Answer) (buf : List ℕ) {x y : A} {a : Answer} {r : O32Answer} {o : List ℕ} → x ≡ y → r ≡ narrow a
+pub handed : {A : Type 0} (into : A → Outcome) (buf : List ℕ) {x y : A} {a : Answer} {r : O32Answer} {o : List ℕ} → x ≡ y → r ≡ narrow a
     → a ≡ answerOf (into x) → o ≡ bufferOf (into x) buf → (r ≡ narrow (answerOf (into y))) × (o ≡ bufferOf (into y) buf)
 handed {A} into buf e f g h = (f ∙ ap narrow (g ∙ ap (λ (x : A). answerOf (into x)) e), h ∙ ap (λ (x : A). bufferOf (into x) buf) e)

@@ -7,8 +7,9 @@ use lib.Dec.{eqb}
 use Rattle.device.specs.declared.Device.{Device}
 use Rattle.device.specs.declared.Device.the-variants.{Fpu, NoFpu}
 use Rattle.answers.specs.declared.Answer.{Answer}
-use Rattle.answers.specs.Answers.{answerOf, bufferOf, readInto, writeInto}
-use Rattle.answers.specs.Demand.{Result, Functions}
+use Rattle.answers.specs.Outcomes.{answerOf, bufferOf}
+use Rattle.carried.specs.Convention.{readInto, writeInto}
+use Rattle.carried.specs.Calls.{Result, Functions}
 use Rattle.o32.specs.O32.{O32}
 use Rattle.frame.specs.declared.Request.{Request}
 use Rattle.frame.specs.declared.Layout.{Layout}

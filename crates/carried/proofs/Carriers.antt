@@ -7,8 +7,10 @@ use Prim.Native.Nat.{ℕ, zero, suc, _<_}
 use native.Mathlib.Omega.{arith}
 use lib.ListN.{length, getD}
 use Rattle.carried.specs.Image.{Placed, carried}
-use Rattle.carried.specs.Demand.{In, Distinct, kinds}
-use Rattle.carried.proofs.Places.{in-left, in-right, in-cases}
+use Rattle.places.specs.Places.{In, Distinct}
+use Rattle.carried.specs.Carried.{kinds}
+use Rattle.places.proofs.Places.{in-left, in-right, in-cases}
+use Rattle.words.proofs.Impossible.{impossible}
 
 -- ---- entries of a list of bytes
 
@@ -49,12 +51,12 @@ distinct-apart (q ∷ ps) qs d p (inr m) n = distinct-apart ps qs (d .1) p m n
 
 -- ---- records
 
--- a record of L with those before and behind it
+-- a record of L with those before and after it
 pub record Among (L : List Placed) : Type 0 where
   pub before : List Placed
   pub here : Placed
-  pub behind : List Placed
-  pub records : L ≡ before ++ (here ∷ behind)
+  pub after : List Placed
+  pub records : L ≡ before ++ (here ∷ after)
 
 -- it carries byte p
 pub record Carrier (L : List Placed) (p : ℕ) : Type 0 where
@@ -64,11 +66,11 @@ pub record Carrier (L : List Placed) (p : ℕ) : Type 0 where
 pub carrier-of : (L : List Placed) (p : ℕ) → In p (carried L) → Carrier L p
 carrier-of [] p m = absurd m
 carrier-of (s ∷ L) p m = in-cases (s .carriers) (carried L) p m
-    (λ i. record { among = record { before = []; here = s; behind = L; records = refl }; byte = entry (s .carriers) p i })
+    (λ i. record { among = record { before = []; here = s; after = L; records = refl }; byte = entry (s .carriers) p i })
     (λ i.
     let w = carrier-of L p i in
     record {
-      among = record { before = s ∷ w .among .before; here = w .among .here; behind = w .among .behind; records = ap (λ (M : List Placed). s ∷ M) (w .among .records) };
+      among = record { before = s ∷ w .among .before; here = w .among .here; after = w .among .after; records = ap (λ (M : List Placed). s ∷ M) (w .among .records) };
       byte = w .byte;
     })
 
@@ -79,7 +81,7 @@ among-in (t ∷ M) s N p m = in-right (t .carriers) (carried (M ++ (s ∷ N))) p
 pub carrier-in : (L : List Placed) (p : ℕ) → Carrier L p → In p (carried L)
 carrier-in L p w =
     let a = w .among in
-    rw (a .records, ← (w .byte .at)) (among-in (a .before) (a .here) (a .behind) (getD (a .here .carriers) (w .byte .index) 0) (entry-in (a .here .carriers) (w .byte .index) (w .byte .inside)))
+    rw (a .records, ← (w .byte .at)) (among-in (a .before) (a .here) (a .after) (getD (a .here .carriers) (w .byte .index) 0) (entry-in (a .here .carriers) (w .byte .index) (w .byte .inside)))
 
 -- two records that carry one byte are the same, and it is the same byte of it
 pub record SameByte (M M′ : List Placed) (i i′ : ℕ) : Type 0 where
@@ -88,8 +90,8 @@ pub record SameByte (M M′ : List Placed) (i i′ : ℕ) : Type 0 where
 
 one-carrier : (L : List Placed) → Distinct (carried L) → (p : ℕ) (M : List Placed) (s : Placed) (N : List Placed) (M′ : List Placed) (s′ : Placed) (N′ : List Placed)
     → L ≡ M ++ (s ∷ N) → L ≡ M′ ++ (s′ ∷ N′) → (v : Entry (s .carriers) p) (w : Entry (s′ .carriers) p) → SameByte M M′ (v .index) (w .index)
-one-carrier [] d p [] s N M′ s′ N′ e f v w = let z : _≡_ {A = ℕ} 0 1 = cc in absurd (omega arith)
-one-carrier [] d p (m ∷ M) s N M′ s′ N′ e f v w = let z : _≡_ {A = ℕ} 0 1 = cc in absurd (omega arith)
+one-carrier [] d p [] s N M′ s′ N′ e f v w = impossible (cc)
+one-carrier [] d p (m ∷ M) s N M′ s′ N′ e f v w = impossible (cc)
 one-carrier (t ∷ L) d p [] s N [] s′ N′ e f v w =
     let x : s ≡ t = cc in
     let y : s′ ≡ t = cc in
@@ -100,12 +102,12 @@ one-carrier (t ∷ L) d p [] s N (m ∷ M′) s′ N′ e f v w =
     let x : s ≡ t = cc in
     let y : L ≡ M′ ++ (s′ ∷ N′) = cc in
     absurd (distinct-apart (t .carriers) (carried L) d p (rw (← x) (rw (← (v .at)) (entry-in (s .carriers) (v .index) (v .inside))))
-    (carrier-in L p (record { among = record { before = M′; here = s′; behind = N′; records = y }; byte = w })))
+    (carrier-in L p (record { among = record { before = M′; here = s′; after = N′; records = y }; byte = w })))
 one-carrier (t ∷ L) d p (m ∷ M) s N [] s′ N′ e f v w =
     let x : s′ ≡ t = cc in
     let y : L ≡ M ++ (s ∷ N) = cc in
     absurd (distinct-apart (t .carriers) (carried L) d p (rw (← x) (rw (← (w .at)) (entry-in (s′ .carriers) (w .index) (w .inside))))
-    (carrier-in L p (record { among = record { before = M; here = s; behind = N; records = y }; byte = v })))
+    (carrier-in L p (record { among = record { before = M; here = s; after = N; records = y }; byte = v })))
 one-carrier (t ∷ L) d p (m ∷ M) s N (m′ ∷ M′) s′ N′ e f v w =
     let x : L ≡ M ++ (s ∷ N) = cc in
     let y : L ≡ M′ ++ (s′ ∷ N′) = cc in
@@ -114,7 +116,7 @@ one-carrier (t ∷ L) d p (m ∷ M) s N (m′ ∷ M′) s′ N′ e f v w =
 
 pub carriers-same : (L : List Placed) → Distinct (carried L) → (p : ℕ) (v w : Carrier L p) → SameByte (v .among .before) (w .among .before) (v .byte .index) (w .byte .index)
 carriers-same L d p v w =
-    one-carrier L d p (v .among .before) (v .among .here) (v .among .behind) (w .among .before) (w .among .here) (w .among .behind) (v .among .records) (w .among .records) (v .byte) (w .byte)
+    one-carrier L d p (v .among .before) (v .among .here) (v .among .after) (w .among .before) (w .among .here) (w .among .after) (v .among .records) (w .among .records) (v .byte) (w .byte)
 
 -- ---- records by their kinds
 
@@ -126,23 +128,23 @@ pub length-kinds : (L : List Placed) → length (kinds L) ≡ length L
 length-kinds [] = refl
 length-kinds (s ∷ L) = ap suc (length-kinds L)
 
--- the record of a kind, by the kinds before and behind it
-pub record OfKind (L : List Placed) (before : List ℕ) (k : ℕ) (behind : List ℕ) : Type 0 where
+-- the record of a kind, by the kinds before and after it
+pub record OfKind (L : List Placed) (before : List ℕ) (k : ℕ) (after : List ℕ) : Type 0 where
   pub among : Among L
   pub kinds-before : kinds (among .before) ≡ before
   pub kind : among .here .kind ≡ k
-  pub kinds-behind : kinds (among .behind) ≡ behind
+  pub kinds-after : kinds (among .after) ≡ after
 
-pub of-kind : (L : List Placed) (before : List ℕ) (k : ℕ) (behind : List ℕ) → kinds L ≡ before ++ (k ∷ behind) → OfKind L before k behind
-of-kind [] [] k behind e = let z : _≡_ {A = ℕ} 0 1 = cc in absurd (omega arith)
-of-kind [] (b ∷ before) k behind e = let z : _≡_ {A = ℕ} 0 1 = cc in absurd (omega arith)
-of-kind (s ∷ L) [] k behind e = record { among = record { before = []; here = s; behind = L; records = refl }; kinds-before = refl; kind = cc; kinds-behind = cc }
-of-kind (s ∷ L) (b ∷ before) k behind e =
+pub of-kind : (L : List Placed) (before : List ℕ) (k : ℕ) (after : List ℕ) → kinds L ≡ before ++ (k ∷ after) → OfKind L before k after
+of-kind [] [] k after e = impossible (cc)
+of-kind [] (b ∷ before) k after e = impossible (cc)
+of-kind (s ∷ L) [] k after e = record { among = record { before = []; here = s; after = L; records = refl }; kinds-before = refl; kind = cc; kinds-after = cc }
+of-kind (s ∷ L) (b ∷ before) k after e =
     let x : s .kind ≡ b = cc in
-    let w = of-kind L before k behind cc in
+    let w = of-kind L before k after cc in
     record {
-      among = record { before = s ∷ w .among .before; here = w .among .here; behind = w .among .behind; records = ap (λ (M : List Placed). s ∷ M) (w .among .records) };
+      among = record { before = s ∷ w .among .before; here = w .among .here; after = w .among .after; records = ap (λ (M : List Placed). s ∷ M) (w .among .records) };
       kinds-before = rw (x, w .kinds-before);
       kind = w .kind;
-      kinds-behind = w .kinds-behind;
+      kinds-after = w .kinds-after;
     }

@@ -1,4 +1,3 @@
-pub mod Places
 pub mod Readings
 pub mod Plans
 pub mod Walks
@@ -9,3 +8,7 @@ pub mod RoundTrip
 pub mod Refusals
 pub mod Splits
 pub mod Carriers
+pub mod Buffers
+pub mod Calls
+pub mod CallRefusals
+pub mod Cases

@@ -10,9 +10,14 @@ use lib.ListN.{length, getD, replicate, length-append, length-drop, length-repli
 use lib.Seq.{take-at, drop-at}
 use Rattle.words.specs.Words.{promote, front, body, proper}
 use Rattle.words.proofs.Bytes.{same→eq}
-use Rattle.carried.specs.Image.{Placed, gather, put, carried, promotedBytes, image, reading, listLength, Answer, done, refused, checked}
-use Rattle.carried.specs.Demand.{In, Sized, OneEach, AllProper, Accepted}
-use Rattle.carried.proofs.Places.{length-gather, gather-append, length-put, getD-put-other, gather-put, gather-agree, agree-gather, in-left, in-right}
+use Rattle.carried.specs.Image.{Placed, carried, promotedBytes, image, reading, listLength, checked}
+use Rattle.answers.specs.Outcomes.{Outcome, done, refused}
+use Rattle.places.specs.Places.{gather, put, In}
+use Rattle.carried.specs.Carried.{Sized, OneEach, AllProper, Accepted}
+use Rattle.places.proofs.Places.{length-gather, gather-append, length-put, getD-put-other, gather-put, gather-agree, agree-gather, in-left, in-right}
+
+pub done-inj : {x y : List ℕ} → done x ≡ done y → x ≡ y
+done-inj e = cc
 
 -- the image's bytes of one record
 abbrev pub bytesIn : Placed → List ℕ → List ℕ
@@ -120,19 +125,19 @@ module _ (n : ℕ) (L : List Placed) (w : OneEach n L) where
 
 -- ---- what the reader answers, of an accepted image
 
-abbrev pub Passed : List Placed → List ℕ → Answer → List ℕ → Type 0
+abbrev pub Passed : List Placed → List ℕ → Outcome → List ℕ → Type 0
 Passed L img (refused r at j) x = Unit {0}
 Passed L img (done y) x = AllProper L img × (x ≡ y)
 
-pub checked-accepts : (L : List Placed) (img x : List ℕ) (at : ℕ) → AllProper L img → checked at L img (done x) ≡ done x
+pub checked-accepts : (L : List Placed) (img x : List ℕ) (at : ℕ) → AllProper L img → checked 8 at L img (done x) ≡ done x
 checked-accepts [] img x at t = refl
 checked-accepts (s ∷ L) img x at t = rw (t .0) (checked-accepts L img x (suc at) (t .1))
 
-pub checked-passes : (L : List Placed) (img x : List ℕ) (at : ℕ) → Passed L img (checked at L img (done x)) x
+pub checked-passes : (L : List Placed) (img x : List ℕ) (at : ℕ) → Passed L img (checked 8 at L img (done x)) x
 checked-passes [] img x at = (tt, refl)
-checked-passes (s ∷ L) img x at = go (isProper s img) refl (checked (suc at) L img (done x)) (checked-passes L img x (suc at))
+checked-passes (s ∷ L) img x at = go (isProper s img) refl (checked 8 (suc at) L img (done x)) (checked-passes L img x (suc at))
   where
-    go : (t : Bool) → isProper s img ≡ t → (a : Answer) → Passed L img a x → Passed (s ∷ L) img (cond t a (refused 8 at (s .argument))) x
+    go : (t : Bool) → isProper s img ≡ t → (a : Outcome) → Passed L img a x → Passed (s ∷ L) img (cond t a (refused 8 at (s .argument))) x
     go false e a h = tt
     go true e (refused r at′ j) h = tt
     go true e (done y) h = ((e, h .0), h .1)

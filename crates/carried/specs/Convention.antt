@@ -4,9 +4,10 @@ use mathlib.Core.Bool.{Bool, true, false, cond}
 use Prim.Native.Nat.{ℕ, zero, suc}
 use lib.ListN.{length}
 use lib.Dec.{eqb, ltb}
-use Rattle.carried.specs.Image.{Placed, image, reading, Answer, done, refused, checked}
+use Rattle.answers.specs.Outcomes.{Outcome, done, refused, checkRoom}
+use Rattle.carried.specs.Image.{Placed, image, reading, checked}
 
--- What a kind byte gets: a refusal, or a placement and the state behind it; and in both the number of the argument that it is or
+-- What a kind byte gets: a refusal, or a placement and the state after it; and in both the number of the argument that it is or
 -- would be, from 1, or 0 where it is none (request (iv) of document 02). A refusal's own number comes first.
 pub data Step (Placement State : Type 0) : Type 0 where
   refuse : ℕ → ℕ → Step Placement State
@@ -26,59 +27,71 @@ pub record Convention : Type 1 where
   -- the length of the image of the arguments so far
   pub imageLength : State → ℕ
 
--- All records of a list or a signature: refused with number, place and argument, or placed, and the last state.
+-- All records of a list or a signature: stopped by a refusal, with its number, place and argument; or complete, placed, and the
+-- last state.
 pub data Plan (State : Type 0) : Type 0 where
-  bad : ℕ → ℕ → ℕ → Plan State
-  good : List Placed → State → Plan State
+  stopped : ℕ → ℕ → ℕ → Plan State
+  complete : List Placed → State → Plan State
 
-abbrev pub also : {State : Type 0} → Placed → Plan State → Plan State
-also s (bad r at n) = bad r at n
-also s (good L st) = good (s ∷ L) st
+abbrev pub prepend : {State : Type 0} → Placed → Plan State → Plan State
+prepend s (stopped r at n) = stopped r at n
+prepend s (complete L st) = complete (s ∷ L) st
 
--- What stands behind a kind byte: in a list the body, in a signature nothing ("The signature is the kind bytes alone").
-abbrev pub behind : Bool → ℕ → ℕ
-behind bodies size = cond bodies size 0
+-- What comes of a plan: its refusal, or else what is made of its records and the last state. A check on the last state stands there.
+abbrev pub resolve : {State : Type 0} → Plan State → (List Placed → State → Outcome) → Outcome
+resolve (stopped r at n) then = refused r at n
+resolve (complete L st) then = then L st
+
+-- How many bytes follow a kind byte: in a list the body, in a signature none ("The signature is the kind bytes alone").
+abbrev pub bodyLength : Bool → ℕ → ℕ
+bodyLength bodies size = cond bodies size 0
 
 module _ (c : Convention) where
-  -- A record with so many bytes left behind its kind byte. "At each record the order is 1 to 5": the convention has refused 1
+  -- A record with so many bytes left after its kind byte. "At each record the order is 1 to 5": the convention has refused 1
   -- to 3, or 4 is next (body cut off), then 5.
   abbrev pub limited : Bool → ℕ → ℕ → Step (c .Placement) (c .State) → Step (c .Placement) (c .State)
   limited bodies left k (refuse r n) = refuse r n
   limited bodies left k (next n p st) =
-      cond (ltb left (behind bodies (c .placedAt k n p .size))) (refuse 4 n) (cond (c .fits st) (next n p st) (refuse 5 n))
+      cond (ltb left (bodyLength bodies (c .placedAt k n p .size))) (refuse 4 n) (cond (c .fits st) (next n p st) (refuse 5 n))
 
   -- One record, with all its refusals.
   abbrev pub taken : Bool → ℕ → c .State → ℕ → Step (c .Placement) (c .State)
   taken bodies left st k = limited bodies left k (c .step st k)
 
-  -- The plan from a record on, by its answer: refused at its place and as this argument, or its record and then the rest.
-  abbrev pub after : ℕ → ℕ → Step (c .Placement) (c .State) → (ℕ → c .State → Plan (c .State)) → Plan (c .State)
-  after at k (refuse r n) rest = bad r at n
-  after at k (next n p st) rest = also (c .placedAt k n p) (rest (c .placedAt k n p .size) st)
+  -- The plan from a record on, by its answer: stopped at its place and as this argument, or its record and then the rest.
+  abbrev pub proceed : ℕ → ℕ → Step (c .Placement) (c .State) → (ℕ → c .State → Plan (c .State)) → Plan (c .State)
+  proceed at k (refuse r n) rest = stopped r at n
+  proceed at k (next n p st) rest = prepend (c .placedAt k n p) (rest (c .placedAt k n p .size) st)
 
   -- "records are checked left to right": from the byte at this place on, with so many bytes of a body still to pass.
-  abbrev pub from : Bool → ℕ → c .State → ℕ → List ℕ → Plan (c .State)
-  from bodies at st n [] = good [] st
-  from bodies at st zero (k ∷ l) = after at k (taken bodies (length l) st k) (λ size st′. from bodies (suc at) st′ (behind bodies size) l)
-  from bodies at st (suc n) (b ∷ l) = from bodies (suc at) st n l
+  abbrev pub planFrom : Bool → ℕ → c .State → ℕ → List ℕ → Plan (c .State)
+  planFrom bodies at st n [] = complete [] st
+  planFrom bodies at st zero (k ∷ l) = proceed at k (taken bodies (length l) st k) (λ size st′. planFrom bodies (suc at) st′ (bodyLength bodies size) l)
+  planFrom bodies at st (suc n) (b ∷ l) = planFrom bodies (suc at) st n l
 
   -- The plan of a list (true) or of a signature (false).
   abbrev pub plan : Bool → List ℕ → Plan (c .State)
-  plan bodies l = from bodies 0 (c .start) 0 l
+  plan bodies l = planFrom bodies 0 (c .start) 0 l
 
-  -- The writer: refusals 1 to 5, else the image. (Refusal 7 is of the lent buffer.)
-  abbrev pub written : List ℕ → Plan (c .State) → Answer
-  written l (bad r at n) = refused r at n
-  written l (good L st) = done (image (c .imageLength st) L l)
+  -- The writer, with a check of the room for the image: refusals 1 to 5, then 7, else the image.
+  abbrev pub writePlan : (ℕ → Outcome → Outcome) → List ℕ → Plan (c .State) → Outcome
+  writePlan room l q = resolve q (λ L st. room (length (image (c .imageLength st) L l)) (done (image (c .imageLength st) L l)))
 
-  abbrev pub write : List ℕ → Answer
-  write l = written l (plan true l)
+  -- The reader, with a check of the room for the list: refusals 1, 2, 3 and 5, then "6, 7, 8", else the reading.
+  abbrev pub readPlan : (ℕ → Outcome → Outcome) → List ℕ → Plan (c .State) → Outcome
+  readPlan room img q = resolve q (λ L st.
+      cond (eqb (length img) (c .imageLength st)) (room (length (reading L img)) (checked 8 0 L img (done (reading L img)))) (refused 6 0 0))
 
-  -- The reader: refusals 1, 2, 3 and 5, then 6 (the image's length), then 8, else the reading. (Refusal 7, of the lent
-  -- buffer, stands between 6 and 8.)
-  abbrev pub readUnder : List ℕ → Plan (c .State) → Answer
-  readUnder img (bad r at n) = refused r at n
-  readUnder img (good L st) = cond (eqb (length img) (c .imageLength st)) (checked 0 L img (done (reading L img))) (refused 6 0 0)
+  -- Both where there is room for anything,
+  abbrev pub write : List ℕ → Outcome
+  write l = writePlan (λ n x. x) l (plan true l)
 
-  abbrev pub read : List ℕ → List ℕ → Answer
-  read sig img = readUnder img (plan false sig)
+  abbrev pub read : List ℕ → List ℕ → Outcome
+  read sig img = readPlan (λ n x. x) img (plan false sig)
+
+  -- and with a lent buffer of so many bytes.
+  abbrev pub writeInto : List ℕ → ℕ → Outcome
+  writeInto l room = writePlan (checkRoom 7 room) l (plan true l)
+
+  abbrev pub readInto : List ℕ → List ℕ → ℕ → Outcome
+  readInto sig img room = readPlan (checkRoom 7 room) img (plan false sig)

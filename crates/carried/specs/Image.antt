@@ -2,19 +2,10 @@
 use mathlib.Core.List.{List, [], _∷_, _++_}
 use mathlib.Core.Bool.{cond}
 use Prim.Native.Nat.{ℕ, suc, _+_}
-use lib.ListN.{getD, set, take, drop, replicate}
+use lib.ListN.{take, drop, replicate}
+use Rattle.answers.specs.Outcomes.{Outcome, refused}
+use Rattle.places.specs.Places.{gather, put}
 use Rattle.words.specs.Words.{Extension, promote, body, proper}
-
--- What an image holds at these bytes, in order. An image byte is a number, its offset in the image.
-abbrev pub gather : List ℕ → List ℕ → List ℕ
-gather img [] = []
-gather img (p ∷ ps) = getD img p 0 ∷ gather img ps
-
--- An image after these values were stored at these bytes, in order.
-abbrev pub put : List ℕ → List ℕ → List ℕ → List ℕ
-put img [] vs = img
-put img (p ∷ ps) [] = img
-put img (p ∷ ps) (v ∷ vs) = put (set img p v) ps vs
 
 -- A record of a list with its place in the image: its kind byte, its argument's number, the bytes of its body, what promotion
 -- puts in front of them, and the image bytes that carry its bytes after promotion, in their order. (A marker has none, and the
@@ -52,14 +43,9 @@ abbrev pub listLength : List Placed → ℕ
 listLength [] = 0
 listLength (s ∷ L) = suc (s .size + listLength L)
 
--- What the writer and the reader answer: the bytes, or the refusal's number, its place and the argument's number.
-pub data Answer : Type 0 where
-  done : List ℕ → Answer
-  refused : ℕ → ℕ → ℕ → Answer
-
--- Refusal 8 at the first kind whose bytes are no proper promotion, with its argument's number, or else this answer. (Where
--- promotion adds nothing, any bytes are proper.)
-abbrev pub checked : ℕ → List Placed → List ℕ → Answer → Answer
-checked at [] img a = a
-checked at (s ∷ L) img a =
-    cond (proper (s .extension) (s .size) (gather img (s .carriers))) (checked (suc at) L img a) (refused 8 at (s .argument))
+-- Refusal 8, as this number, at the first kind whose bytes are no proper promotion, with its argument's number, or else this outcome.
+-- (Where promotion adds nothing, any bytes are proper.)
+abbrev pub checked : ℕ → ℕ → List Placed → List ℕ → Outcome → Outcome
+checked number at [] img a = a
+checked number at (s ∷ L) img a =
+    cond (proper (s .extension) (s .size) (gather img (s .carriers))) (checked number (suc at) L img a) (refused number at (s .argument))

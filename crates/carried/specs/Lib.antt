@@ -1,3 +1,4 @@
 pub mod Image
 pub mod Convention
-pub mod Demand
+pub mod Carried
+pub mod Calls

@@ -11,7 +11,7 @@ use lib.Seq.{drop-cons, paste}
 use lib.Dec.{ltb}
 use borrow.Author.Tests.{eq-eqb, ne-eqb, le-leb, lt-leb, lt-ltb, le-ltb}
 use Rattle.text.specs.Text.{stored}
-use Rattle.text.proofs.Written.{over, over-step}
+use Rattle.text.proofs.Written.{overlay, paste-overlay-step}
 use Rattle.case_input.specs.declared.Series.{Series}
 use Rattle.case_input.specs.Lines.{series, seriesAt, bytesOf, fieldIn, field, fieldLength}
 
@@ -20,12 +20,12 @@ unfolding series
 series-length byte step zero = refl
 series-length byte step (suc n) = ap suc (series-length ((byte + step) % 2 ^ 8) step n)
 
--- where i bytes of a series are passed: its next byte, and what is behind that
-pub series-on : (l : List ℕ) (i n byte step : ℕ) → i < length l → 1 ≤ n → drop i l ≡ series byte step n
+-- where i bytes of a series are passed: its next byte, and what is after that
+pub series-rest : (l : List ℕ) (i n byte step : ℕ) → i < length l → 1 ≤ n → drop i l ≡ series byte step n
     → (getD l i 0 ≡ byte) × (drop (i + 1) l ≡ series ((byte + step) % 2 ^ 8) step (n - 1))
 unfolding series
-series-on l i zero byte step h g e = absurd (omega arith)
-series-on l i (suc n) byte step h g e =
+series-rest l i zero byte step h g e = absurd (omega arith)
+series-rest l i (suc n) byte step h g e =
     let f : getD l i 0 ∷ drop (suc i) l ≡ byte ∷ series ((byte + step) % 2 ^ 8) step n = sym (drop-cons l i 0 h) ∙ e in
     let m : suc n - 1 ≡ n = omega arith in
     let b : drop (suc i) l ≡ series ((byte + step) % 2 ^ 8) step n = cc in
@@ -51,13 +51,13 @@ module _ (line : List ℕ) (to : ℕ) where
   field-series zero i g h e f j = absurd (omega arith)
   field-series (suc most) i g h e f j = let m : suc most - 1 ≡ most = omega arith in rw (m, j, lt-leb to i h, ne-eqb (getD line i 0) 32 e, le-ltb (to - i) 2 f)
 
--- ---- what `bytes` has stored
+-- ---- what `put_field` has stored
 
 pub record Taken (line : List ℕ) (from to : ℕ) (out₀ out : List ℕ) (n i : ℕ) : Type 0 where
   bytes : List ℕ
   most : ℕ
   many : n ≡ length bytes
-  held : out ≡ over bytes out₀
+  held : out ≡ overlay bytes out₀
   pub fits : n ≤ length out₀
   enough : to ≤ i + most
   rest : bytes ++ fieldIn most line i to ≡ field line from to
@@ -89,25 +89,25 @@ module _ (line : List ℕ) (from to : ℕ) (out₀ out : List ℕ) (n i : ℕ) (
   }
 
   module _ (h : i < to) (e : getD line i 0 ≡ 32 → ⊥) where
-    long : (more rest : List ℕ) → fieldIn (w .most) line i to ≡ more ++ rest → length (field line from to) ≡ n + length more + length rest
-    long more rest f =
+    field-length : (more rest : List ℕ) → fieldIn (w .most) line i to ≡ more ++ rest → length (field line from to) ≡ n + length more + length rest
+    field-length more rest f =
         ap length (sym (w .rest) ∙ ap (λ (l : List ℕ). w .bytes ++ l) f)
         ∙ rw (length-append, length-append) (omega (arith, w .many))
 
     -- no room
-    pub too-long : length out₀ < length (field line from to) → {now : List ℕ} → (99999 ≡ fieldLength (field line from to) (length out₀)) × (99999 ≤ 4096 → now ≡ stored (field line from to) out₀)
-    too-long g = (rw (lt-ltb (length out₀) (length (field line from to)) g) refl, λ x. absurd (omega arith))
+    pub too-long-malformed : length out₀ < length (field line from to) → {now : List ℕ} → (99999 ≡ fieldLength (field line from to) (length out₀)) × (99999 ≤ 4096 → now ≡ stored (field line from to) out₀)
+    too-long-malformed g = (rw (lt-ltb (length out₀) (length (field line from to)) g) refl, λ x. absurd (omega arith))
 
-    pub half : to - i < 2 → length out₀ ≤ 4096 → length out₀ < length (field line from to)
-    half f room =
-        omega (arith, long (series 0 0 99999) [] (field-half line to (w .most) i (omega (arith, w .enough)) h e f ∙ sym (append-nil (series 0 0 99999))), series-length 0 0 99999)
+    pub half-too-long : to - i < 2 → length out₀ ≤ 4096 → length out₀ < length (field line from to)
+    half-too-long f room =
+        omega (arith, field-length (series 0 0 99999) [] (field-half line to (w .most) i (omega (arith, w .enough)) h e f ∙ sym (append-nil (series 0 0 99999))), series-length 0 0 99999)
 
     module _ (t : Series) (f : 2 ≤ to - i) (g : t ≡ seriesAt line i) where
       split : fieldIn (w .most) line i to ≡ bytesOf t ++ fieldIn (w .most - 1) line (t .end) to
       split = field-series line to (w .most) i (omega (arith, w .enough)) h e f g
 
-      pub over-full : length out - n < t .count → length out₀ < length (field line from to)
-      over-full x = omega (arith, long (bytesOf t) (fieldIn (w .most - 1) line (t .end) to) split, series-length (t .byte) (t .step) (t .count), w .same, w .fits)
+      pub series-too-long : length out - n < t .count → length out₀ < length (field line from to)
+      series-too-long x = omega (arith, field-length (bytesOf t) (fieldIn (w .most - 1) line (t .end) to) split, series-length (t .byte) (t .step) (t .count), w .same, w .fits)
 
       pub taken-series : {next : List ℕ} → i < t .end → t .count ≤ length out - n → next ≡ paste out n (bytesOf t) (t .count) → length next ≡ length out → Taken line from to out₀ next (n + t .count) (t .end)
       taken-series {next} k room put kept =
@@ -115,7 +115,7 @@ module _ (line : List ℕ) (from to : ℕ) (out₀ out : List ℕ) (n i : ℕ) (
             bytes = w .bytes ++ bytesOf t;
             most = w .most - 1;
             many = omega (arith, w .many, length-append (w .bytes) (bytesOf t));
-            held = over-step out₀ (w .bytes) (bytesOf t) (w .held) (w .many) (put ∙ ap (paste out n (bytesOf t)) (sym m));
+            held = paste-overlay-step out₀ (w .bytes) (bytesOf t) (w .held) (w .many) (put ∙ ap (paste out n (bytesOf t)) (sym m));
             fits = omega (arith, w .fits, w .same);
             enough = omega (arith, w .enough);
             rest = append-assoc (w .bytes) (bytesOf t) (fieldIn (w .most - 1) line (t .end) to) ∙ ap (λ (l : List ℕ). w .bytes ++ l) (sym split) ∙ w .rest;

@@ -4,21 +4,21 @@ ghost use mathlib.Core.Path.{_≡_};
 ghost use Prim.Native.Nat.{_+_, _<_, _≤_};
 ghost use lib.ListN.{drop, length};
 ghost use lib.Seq.{paste};
-ghost use Rattle.case_input.specs.Lines.{deviceOf, digitOf, field, fieldLength, isCase, numberAt, numberOf, placeOf, roomOf, series, seriesAt, seriesOf, withDigit};
+ghost use Rattle.case_input.specs.Lines.{deviceOf, digitOf, field, fieldLength, numberAt, numberOf, placeOf, requireDigit, roomOf, series, seriesAt, seriesBySign, seriesOf};
 ghost use Rattle.text.specs.Text.{stored};
 use device::Device;
 
 // What a malformed number or field counts as: more than a buffer has.
 const MALFORMED: usize = 99999;
 
-// A decimal number in a text, and the place behind it.
+// A decimal number in a text, and the place after it.
 pub struct Number {
     pub value: usize,
     pub end: usize,
 }
 
-// A pair of hex digits with what stands behind it: its byte, how many bytes it makes, by how much each is more than the last,
-// and the place behind it.
+// A pair of hex digits with its sign and number: its byte, how many bytes it makes, by how much each is more than the last, and the
+// place after it.
 struct Series {
     byte: u8,
     count: usize,
@@ -38,7 +38,7 @@ fn digit(c: u8) -> u8
     }
 }
 
-// The place of a byte at or behind another place; the length where there is none.
+// The place of a byte at or after another place; the length where there is none.
 pub fn find(text: &[u8], from: usize, byte: u8) -> usize
     requires { ⌜ from ≤ length (now text) ⌝ }
     ensures { λ r. ⌜ r ≡ from + placeOf byte (drop from (now (text .entry))) ⌝ }
@@ -54,24 +54,24 @@ pub fn find(text: &[u8], from: usize, byte: u8) -> usize
     i
 }
 
-fn ends(value: usize, end: usize) -> Number
+fn number_of(value: usize, end: usize) -> Number
     ensures { λ r. ⌜ r ≡ numberOf value end ⌝ }
 {
     Number { value, end }
 }
 
 // A number from one place to another, which is malformed where it has no digit.
-fn with_digit(from: usize, value: usize, end: usize) -> Number
-    ensures { λ r. ⌜ r ≡ withDigit from (numberOf value end) ⌝ }
+fn require_digit(from: usize, value: usize, end: usize) -> Number
+    ensures { λ r. ⌜ r ≡ requireDigit from (numberOf value end) ⌝ }
 {
     if end == from {
-        return ends(MALFORMED, from);
+        return number_of(MALFORMED, from);
     }
-    ends(value, end)
+    number_of(value, end)
 }
 
 // The decimal number at a place; malformed where there is no digit, or from 10,000 on.
-fn decimal(text: &[u8], from: usize) -> Number
+fn number_at(text: &[u8], from: usize) -> Number
     requires { ⌜ from ≤ length (now text) ⌝ }
     ensures { λ r. ⌜ r ≡ numberAt (now (text .entry)) from ⌝ }
     ensures { λ r. ⌜ from ≤ r .end ⌝ }
@@ -81,18 +81,18 @@ fn decimal(text: &[u8], from: usize) -> Number
     while i < text.len() {
         let d = digit(text[i]);
         if d > 9 {
-            return with_digit(from, value, i);
+            return require_digit(from, value, i);
         }
         if value > 999 {
-            return ends(MALFORMED, i);
+            return number_of(MALFORMED, i);
         }
         value = value * 10 + d as usize;
         i += 1;
     }
-    with_digit(from, value, i)
+    require_digit(from, value, i)
 }
 
-fn made(byte: u8, count: usize, step: u8, end: usize) -> Series
+fn series_of(byte: u8, count: usize, step: u8, end: usize) -> Series
     ensures { λ r. ⌜ r ≡ seriesOf byte count step end ⌝ }
 {
     Series {
@@ -103,6 +103,26 @@ fn made(byte: u8, count: usize, step: u8, end: usize) -> Series
     }
 }
 
+// The series of a byte, by the sign and the number after its digits, where there are any.
+fn series_by_sign(line: &[u8], byte: u8, next: usize) -> Series
+    ensures { λ r. ⌜ r ≡ seriesBySign (now (line .entry)) byte next ⌝ }
+    ensures { λ r. ⌜ next ≤ r .end ⌝ }
+{
+    if next >= line.len() {
+        return series_of(byte, 1, 0, next);
+    }
+    let sign = line[next];
+    if sign == b'*' {
+        let times = number_at(line, next + 1);
+        return series_of(byte, times.value, 0, times.end);
+    }
+    if sign == b'+' {
+        let times = number_at(line, next + 1);
+        return series_of(byte, times.value, 1, times.end);
+    }
+    series_of(byte, 1, 0, next)
+}
+
 // The series at a place.
 fn series_at(line: &[u8], at: usize) -> Series
     requires { ⌜ at + 2 ≤ length (now line) ⌝ }
@@ -111,31 +131,17 @@ fn series_at(line: &[u8], at: usize) -> Series
 {
     let high = digit(line[at]);
     let low = digit(line[at + 1]);
-    let behind = at + 2;
     if high > 15 {
-        return made(0, MALFORMED, 0, behind);
+        return series_of(0, MALFORMED, 0, at + 2);
     }
     if low > 15 {
-        return made(0, MALFORMED, 0, behind);
+        return series_of(0, MALFORMED, 0, at + 2);
     }
-    let byte = 16 * high + low;
-    if behind >= line.len() {
-        return made(byte, 1, 0, behind);
-    }
-    let sign = line[behind];
-    if sign == b'*' {
-        let times = decimal(line, behind + 1);
-        return made(byte, times.value, 0, times.end);
-    }
-    if sign == b'+' {
-        let times = decimal(line, behind + 1);
-        return made(byte, times.value, 1, times.end);
-    }
-    made(byte, 1, 0, behind)
+    series_by_sign(line, 16 * high + low, at + 2)
 }
 
-// So many bytes into a buffer from a place on, each so much more than the last; the place behind them.
-fn put(out: &mut [u8], at: usize, first: u8, step: u8, count: usize) -> usize
+// So many bytes into a buffer from a place on, each so much more than the last; the place after them.
+fn put_series(out: &mut [u8], at: usize, first: u8, step: u8, count: usize) -> usize
     requires { ⌜ at + count ≤ length (now out) ⌝ }
     ensures { λ r. ⌜ r ≡ at + count ⌝ }
     ensures { λ _. ⌜ now (out .exit) ≡ paste (now (out .entry)) at (series first step count) count ⌝ }
@@ -151,7 +157,7 @@ fn put(out: &mut [u8], at: usize, first: u8, step: u8, count: usize) -> usize
 }
 
 // The bytes of the field between two places of a line into a buffer; their number, or malformed.
-pub fn bytes(line: &[u8], from: usize, to: usize, out: &mut [u8]) -> usize
+pub fn put_field(line: &[u8], from: usize, to: usize, out: &mut [u8]) -> usize
     requires { ⌜ to ≤ length (now line) ⌝ }
     requires { ⌜ length (now out) ≤ 4096 ⌝ }
     ensures { λ r. ⌜ r ≡ fieldLength (field (now (line .entry)) from to) (length (now (out .entry))) ⌝ }
@@ -171,14 +177,14 @@ pub fn bytes(line: &[u8], from: usize, to: usize, out: &mut [u8]) -> usize
             if out.len() - n < t.count {
                 return MALFORMED;
             }
-            n = put(out, n, t.byte, t.step, t.count);
+            n = put_series(out, n, t.byte, t.step, t.count);
             i = t.end;
         }
     }
     n
 }
 
-// The room of a case, which is the decimal number between a space and a comma, and the place behind the comma; malformed where
+// The room of a case, which is the decimal number between a space and a comma, and the place after the comma; malformed where
 // there is none.
 pub fn room(line: &[u8]) -> Number
     ensures { λ r. ⌜ r ≡ roomOf (now (line .entry)) ⌝ }
@@ -187,23 +193,13 @@ pub fn room(line: &[u8]) -> Number
     let space = find(line, 0, b' ');
     let comma = find(line, space, b',');
     if comma >= line.len() {
-        return ends(MALFORMED, comma);
+        return number_of(MALFORMED, comma);
     }
-    let number = decimal(line, space + 1);
+    let number = number_at(line, space + 1);
     if number.end != comma {
-        return ends(MALFORMED, comma);
+        return number_of(MALFORMED, comma);
     }
-    ends(number.value, comma + 1)
-}
-
-// Whether a line is a case: not empty, and no comment.
-pub fn is_case(line: &[u8]) -> bool
-    ensures { λ r. ⌜ r ≡ isCase (now (line .entry)) ⌝ }
-{
-    if line.len() == 0 {
-        return false;
-    }
-    line[0] != b'#'
+    number_of(number.value, comma + 1)
 }
 
 // The device of a case: a word with an n before it names the one without a floating-point unit.

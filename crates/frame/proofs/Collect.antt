@@ -8,50 +8,50 @@ use native.Mathlib.Omega.{arith}
 use native.Mathlib.Decide.{ℕ-discrete}
 use native.Mathlib.Nat.{mul-zero, mul-one, mul-add}
 use borrow.Author.Tests.{eqb-true}
-use Rattle.frame.specs.Masks.{bit, named, below}
+use Rattle.frame.specs.Masks.{bit, names, countBelow}
 use Rattle.frame.specs.Words.{Save, collect}
 use Rattle.frame.proofs.Saves.{All, all-append, all-split, Span, span-append}
 
 module _ (P : Save → Type 0) (f : ℕ → List Save) (m : ℕ) where
-  pub collect-all : (k : ℕ) → ((j : ℕ) → j < k → named m j ≡ true → All P (f j)) → All P (collect f m k)
+  pub collect-all : (k : ℕ) → ((j : ℕ) → j < k → names m j ≡ true → All P (f j)) → All P (collect f m k)
   unfolding collect
   collect-all zero h = tt
-  collect-all (suc k) h = all-append P (collect f m k) _ (collect-all k (λ j q e. h j (omega arith) e)) (by (named m k) refl)
+  collect-all (suc k) h = all-append P (collect f m k) _ (collect-all k (λ j q e. h j (omega arith) e)) (by (names m k) refl)
     where
-      by : (b : Bool) → named m k ≡ b → All P (cond b (f k) [])
+      by : (b : Bool) → names m k ≡ b → All P (cond b (f k) [])
       by false e = tt
       by true e = h k (omega arith) e
 
-  pub collect-at : (k j : ℕ) → All P (collect f m k) → j < k → named m j ≡ true → All P (f j)
+  pub collect-at : (k j : ℕ) → All P (collect f m k) → j < k → names m j ≡ true → All P (f j)
   unfolding collect
   collect-at zero j a h e = absurd (omega arith)
-  collect-at (suc k) j a h e = let b = all-split P (collect f m k) (cond (named m k) (f k) []) a in by (ℕ-discrete j k) (b .1) (λ q. collect-at k j (b .0) q e)
+  collect-at (suc k) j a h e = let b = all-split P (collect f m k) (cond (names m k) (f k) []) a in by (ℕ-discrete j k) (b .1) (λ q. collect-at k j (b .0) q e)
     where
-      by : Dec (j ≡ k) → All P (cond (named m k) (f k) []) → (j < k → All P (f j)) → All P (f j)
+      by : Dec (j ≡ k) → All P (cond (names m k) (f k) []) → (j < k → All P (f j)) → All P (f j)
       by (no n) b earlier = earlier (omega arith)
       by (yes q) b earlier =
-          subst (λ (i : ℕ). All P (f i)) (sym q) (subst (λ (x : Bool). All P (cond x (f k) [])) (ap (named m) (sym q) ∙ e) b)
+          subst (λ (i : ℕ). All P (f i)) (sym q) (subst (λ (x : Bool). All P (cond x (f k) [])) (ap (names m) (sym q) ∙ e) b)
 
 -- where none is named, none is collected
-pub collect-none : (f : ℕ → List Save) (m k : ℕ) → below m k ≡ 0 → collect f m k ≡ []
-unfolding collect below
+pub collect-none : (f : ℕ → List Save) (m k : ℕ) → countBelow m k ≡ 0 → collect f m k ≡ []
+unfolding collect countBelow
 collect-none f m zero e = refl
 collect-none f m (suc k) e =
     let b : bit m k ≡ 0 = omega arith in
-    let p : below m k ≡ 0 = omega arith in
+    let p : countBelow m k ≡ 0 = omega arith in
     simp (collect-none f m k p, b)
 
 -- s bytes for each register below k
-pub collect-span : (f : ℕ → List Save) (s m start k : ℕ) → ((j : ℕ) → Span (start + s * below m j) (f j) (start + s * below m j + s))
-    → Span start (collect f m k) (start + s * below m k)
-unfolding collect below
+pub collect-span : (f : ℕ → List Save) (s m start k : ℕ) → ((j : ℕ) → Span (start + s * countBelow m j) (f j) (start + s * countBelow m j + s))
+    → Span start (collect f m k) (start + s * countBelow m k)
+unfolding collect countBelow
 collect-span f s m start zero h = omega (arith, mul-zero s)
 collect-span f s m start (suc k) h =
-    span-append start (collect f m k) (start + s * below m k) _ (start + s * (below m k + bit m k)) (collect-span f s m start k h) (by (named m k) refl)
+    span-append start (collect f m k) (start + s * countBelow m k) _ (start + s * (countBelow m k + bit m k)) (collect-span f s m start k h) (by (names m k) refl)
   where
-    by : (b : Bool) → named m k ≡ b → Span (start + s * below m k) (cond b (f k) []) (start + s * (below m k + bit m k))
+    by : (b : Bool) → names m k ≡ b → Span (start + s * countBelow m k) (cond b (f k) []) (start + s * (countBelow m k + bit m k))
     by true e =
-        let q : start + s * (below m k + bit m k) ≡ start + s * below m k + s =
-        omega (arith, mul-add s (below m k) (bit m k), ap (λ (x : ℕ). s * x) (eqb-true (bit m k) 1 e), mul-one s) in
-        subst (Span (start + s * below m k) (f k)) (sym q) (h k)
-    by false e = omega (arith, mul-add s (below m k) (bit m k))
+        let q : start + s * (countBelow m k + bit m k) ≡ start + s * countBelow m k + s =
+        omega (arith, mul-add s (countBelow m k) (bit m k), ap (λ (x : ℕ). s * x) (eqb-true (bit m k) 1 e), mul-one s) in
+        subst (Span (start + s * countBelow m k) (f k)) (sym q) (h k)
+    by false e = omega (arith, mul-add s (countBelow m k) (bit m k))

@@ -1,4 +1,6 @@
+pub mod Cases
 pub mod Masks
+pub mod Savable
 pub mod Accepted
 pub mod Saves
 pub mod Each

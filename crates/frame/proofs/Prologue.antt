@@ -9,24 +9,24 @@ use native.Mathlib.Omega.{arith}
 use lib.Dec.{eqb}
 use lib.ListN.{length, length-map}
 use borrow.Author.Tests.{eqb-true, eqb-false}
-use Rattle.machine.specs.Machine.{State, upd, after, behind, sum, onward, step, Holds, Runs}
+use Rattle.machine.specs.Machine.{State, upd, nextAddress, laterAddress, sum, proceed, step, Holds, Runs}
 use Rattle.machine.proofs.Steps.{upd-same, upd-other, sum-down, step-addiu}
 use Rattle.machine.proofs.Runs.{runs-end, runs-step}
 use Rattle.frame.specs.Words.{Save, storeWord, prologueFor}
-use Rattle.frame.specs.Demand.{Entry}
-use Rattle.frame.proofs.Saves.{All, Span, span-le, all-both, held, held-same, Sound}
-use Rattle.frame.proofs.Each.{on-next, line-on, Area, each, runs-each}
+use Rattle.frame.specs.Keeping.{Entry}
+use Rattle.frame.proofs.Saves.{All, Span, span-le, all-both, contents, contents-same, Sound}
+use Rattle.frame.proofs.Each.{follows-next, proceed-line, Area, doEach, runs-each}
 use Rattle.frame.proofs.Stores.{store, store-goes, Stored, stored}
 
 -- Only `$sp`, the program counter and the save words differ, and these hold the registers; there were n words.
 pub record Entered (F : ℕ) (saves : List Save) (n : ℕ) (s t : State) : Type 0 where
-  pub at : t .pc ≡ behind n (s .pc)
+  pub at : t .pc ≡ laterAddress n (s .pc)
   pub slot : t .target ≡ none
   pub sp : t .reg 29 ≡ s .reg 29 - F
   pub general : (k : ℕ) → (k ≡ 29 → ⊥) → t .reg k ≡ s .reg k
   pub floating : (k : ℕ) → t .freg k ≡ s .freg k
   pub elsewhere : (a : ℕ) → All (λ v. a ≡ t .reg 29 + v .offset → ⊥) saves → t .mem a ≡ s .mem a
-  pub saved : All (λ v. t .mem (t .reg 29 + v .offset) ≡ held s v) saves
+  pub saved : All (λ v. t .mem (t .reg 29 + v .offset) ≡ contents s v) saves
 
 -- where the frame lies
 pub area : {p F : ℕ} {vs : List Save} {s : State} → Sound F vs → Entry F s → p ≡ s .reg 29 - F → Area p F
@@ -34,7 +34,7 @@ area d e q = record { whole = omega arith; top = omega arith; small = d .small }
 
 -- `addiu $sp,$sp,i`
 pub add-sp : (code : ℕ → ℕ) (s : State) (i : ℕ) → s .pc % 4 ≡ 0 → i < 2 ^ 16 → code (s .pc) ≡ 0x27BD0000 + i
-    → step code s ≡ some (onward s (upd (s .reg) 29 (sum (s .reg) 29 i)) (s .freg) (s .mem))
+    → step code s ≡ some (proceed s (upd (s .reg) 29 (sum (s .reg) 29 i)) (s .freg) (s .mem))
 add-sp code s i w h c = step-addiu code (record { whole = w; base = omega arith; register = omega arith; immediate = h }) (omega arith) (omega arith)
 
 -- a frame of no bytes has no saves
@@ -42,16 +42,16 @@ no-saves : (P : Save → Type 0) (lo : ℕ) (vs : List Save) (hi : ℕ) → hi �
 no-saves P lo [] hi z d = tt
 no-saves P lo (v ∷ vs) hi z d = absurd (omega (arith, span-le (v .offset + 4) vs hi (d .1)))
 
--- the state behind `addiu $sp,$sp,-F`
-abbrev lowered : ℕ → State → State
-lowered F s = onward s (upd (s .reg) 29 (s .reg 29 - F)) (s .freg) (s .mem)
+-- the state after `addiu $sp,$sp,-F`
+abbrev lower : ℕ → State → State
+lower F s = proceed s (upd (s .reg) 29 (s .reg 29 - F)) (s .freg) (s .mem)
 
--- the stores behind it
-entered : (F : ℕ) (vs : List Save) (n : ℕ) (s : State) → Sound F vs → (let t = each (store (s .reg 29 - F)) vs (lowered F s) in t .pc ≡ behind n (s .pc) → t .target ≡ none → Entered F vs n s t)
+-- the stores after it
+entered : (F : ℕ) (vs : List Save) (n : ℕ) (s : State) → Sound F vs → (let t = doEach (store (s .reg 29 - F)) vs (lower F s) in t .pc ≡ laterAddress n (s .pc) → t .target ≡ none → Entered F vs n s t)
 entered F vs n s d at slot =
     let p : ℕ = s .reg 29 - F in
-    let t : Stored p vs (lowered F s) (each (store p) vs (lowered F s)) = stored p 0 vs F (lowered F s) (d .span) in
-    let sp : each (store p) vs (lowered F s) .reg 29 ≡ p = ap (λ (g : ℕ → ℕ). g 29) (t .reg) ∙ upd-same (s .reg) 29 p in
+    let t : Stored p vs (lower F s) (doEach (store p) vs (lower F s)) = stored p 0 vs F (lower F s) (d .span) in
+    let sp : doEach (store p) vs (lower F s) .reg 29 ≡ p = ap (λ (g : ℕ → ℕ). g 29) (t .reg) ∙ upd-same (s .reg) 29 p in
     let other : (k : ℕ) → (k ≡ 29 → ⊥) → upd (s .reg) 29 p k ≡ s .reg k = upd-other (s .reg) 29 p in
     record {
       at = at;
@@ -60,14 +60,14 @@ entered F vs n s d at slot =
       general = λ k h. ap (λ (g : ℕ → ℕ). g k) (t .reg) ∙ other k h;
       floating = λ k. ap (λ (f : ℕ → ℕ). f k) (t .freg);
       elsewhere = rw sp (t .elsewhere);
-      saved = rw sp (all-both vs (λ v f h. h ∙ held-same s (lowered F s) v other (λ k. refl) f) (d .fit) (t .saved));
+      saved = rw sp (all-both vs (λ v f h. h ∙ contents-same s (lower F s) v other (λ k. refl) f) (d .fit) (t .saved));
     }
 
 module _ (code : ℕ → ℕ) (F : ℕ) (vs : List Save) (s : State) (d : Sound F vs) (e : Entry F s) (whole : s .pc % 4 ≡ 0) (slot : s .target ≡ none) where
-  lowers : (F ≡ 0 → ⊥) → code (s .pc) ≡ 0x27BD0000 + (65536 - F) → step code s ≡ some (lowered F s)
-  lowers z c =
+  step-lowers : (F ≡ 0 → ⊥) → code (s .pc) ≡ 0x27BD0000 + (65536 - F) → step code s ≡ some (lower F s)
+  step-lowers z c =
       add-sp code s (65536 - F) whole (omega arith) c
-      ∙ ap (λ (x : ℕ). some (onward s (upd (s .reg) 29 x) (s .freg) (s .mem)))
+      ∙ ap (λ (x : ℕ). some (proceed s (upd (s .reg) 29 x) (s .freg) (s .mem)))
       (sum-down (s .reg) 29 F (omega arith) (omega arith) (omega arith) (e .room) (e .word))
 
   abbrev Done : List ℕ → Type 0
@@ -92,11 +92,11 @@ module _ (code : ℕ → ℕ) (F : ℕ) (vs : List Save) (s : State) (d : Sound 
           })
       by false z h =
           let p : ℕ = s .reg 29 - F in
-          let next : lowered F s .pc ≡ after (s .pc) = on-next s slot in
-          let q : Holds code (lowered F s .pc) (map storeWord vs ++ []) = rw (append-nil, next) (h .1) in
+          let next : lower F s .pc ≡ nextAddress (s .pc) = follows-next s slot in
+          let q : Holds code (lower F s .pc) (map storeWord vs ++ []) = rw (append-nil, next) (h .1) in
           let n : ℕ = suc (length (map storeWord vs)) in
-          let back : (a : ℕ) → a ≡ behind (length vs) (lowered F s .pc) → a ≡ behind n (s .pc) = λ a x. x ∙ ap₂ behind (sym (length-map vs storeWord)) next in
-          runs-step (lowers (eqb-false F 0 z) (h .0))
+          let back : (a : ℕ) → a ≡ laterAddress (length vs) (lower F s .pc) → a ≡ laterAddress n (s .pc) = λ a x. x ∙ ap₂ laterAddress (sym (length-map vs storeWord)) next in
+          runs-step (step-lowers (eqb-false F 0 z) (h .0))
           (rw append-nil at
-          (runs-each code p F storeWord (store p) (store-goes code (area d e refl)) {Then = Entered F vs n s} 0 vs [] (lowered F s) (d .fit) (d .span)
-          (line-on s whole slot (upd-same (s .reg) 29 p)) q (λ l x t. runs-end (entered F vs n s d (back _ x) (l .slot)))))
+          (runs-each code p F storeWord (store p) (store-goes code (area d e refl)) {Then = Entered F vs n s} 0 vs [] (lower F s) (d .fit) (d .span)
+          (proceed-line s whole slot (upd-same (s .reg) 29 p)) q (λ l x t. runs-end (entered F vs n s d (back _ x) (l .slot)))))

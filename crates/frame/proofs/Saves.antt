@@ -43,9 +43,9 @@ span-append lo [] mid ws hi d e = span-within lo mid ws hi hi d (omega arith) e
 span-append lo (v ∷ vs) mid ws hi d e = (d .0, span-append (v .offset + 4) vs mid ws hi (d .1) e)
 
 -- what lies below them is none of them, wherever the frame lies
-pub apart : (p a lo : ℕ) (vs : List Save) (hi : ℕ) → a < lo → Span lo vs hi → All (λ v. p + a ≡ p + v .offset → ⊥) vs
-apart p a lo [] hi h d = tt
-apart p a lo (v ∷ vs) hi h d = (λ e. omega (arith, d .0), apart p a (v .offset + 4) vs hi (omega (arith, d .0)) (d .1))
+pub span-apart : (p a lo : ℕ) (vs : List Save) (hi : ℕ) → a < lo → Span lo vs hi → All (λ v. p + a ≡ p + v .offset → ⊥) vs
+span-apart p a lo [] hi h d = tt
+span-apart p a lo (v ∷ vs) hi h d = (λ e. omega (arith, d .0), span-apart p a (v .offset + 4) vs hi (omega (arith, d .0)) (d .1))
 
 -- What the code asks of a save, wherever the frame ends: a register, other than `$0` and `$sp`, and the offset of a word.
 pub record Fit (v : Save) : Type 0 where
@@ -62,13 +62,13 @@ pub record Sound (F : ℕ) (saves : List Save) : Type 0 where
   pub span : Span 0 saves F
 
 -- What the register of a save holds.
-abbrev pub held : State → Save → ℕ
-held s v = cond (v .float) (s .freg) (s .reg) (v .number)
+abbrev pub contents : State → Save → ℕ
+contents s v = cond (v .float) (s .freg) (s .reg) (v .number)
 
 -- a change of `$sp` alone does not change it
-pub held-same : (s t : State) (v : Save) → ((k : ℕ) → (k ≡ 29 → ⊥) → t .reg k ≡ s .reg k) → ((k : ℕ) → t .freg k ≡ s .freg k) → Fit v
-    → held t v ≡ held s v
-held-same s t v g f h = by (v .float) (h .keeps)
+pub contents-same : (s t : State) (v : Save) → ((k : ℕ) → (k ≡ 29 → ⊥) → t .reg k ≡ s .reg k) → ((k : ℕ) → t .freg k ≡ s .freg k) → Fit v
+    → contents t v ≡ contents s v
+contents-same s t v g f h = by (v .float) (h .keeps)
   where
     by : (b : Bool) → (b ≡ false → v .number ≡ 29 → ⊥) → cond b (t .freg) (t .reg) (v .number) ≡ cond b (s .freg) (s .reg) (v .number)
     by true k = f (v .number)

@@ -11,10 +11,11 @@ use lib.ListN.{length}
 use Rattle.device.specs.declared.Device.{Device}
 use Rattle.device.specs.declared.Device.the-variants.{NoFpu}
 use Rattle.machine.specs.Machine.{State, run, Holds, Runs}
-use Rattle.frame.specs.Masks.{named}
+use Rattle.frame.specs.Masks.{names}
 use Rattle.frame.specs.Frame.{refusalOf, floatingAt, generalAt, frameOf}
-use Rattle.frame.specs.Words.{Save, collect, pairAt, registerAt, savesOf, prologueFor, epilogueFor, prologueWords, epilogueWords, bytesOfWords}
-use Rattle.frame.specs.Demand.{wordsIn, Ready, Entry, SaveWord, register, even, odd, Prologued, Body, Returned, Keeps}
+use Rattle.frame.specs.Words.{Save, pairAt, registerAt, pairsOf, registersOf, savesOf, prologueFor, epilogueFor, prologueWords, epilogueWords}
+use Rattle.words.specs.Words.{bytesOfWords}
+use Rattle.frame.specs.Keeping.{wordsIn, Ready, Entry, SaveWord, register, even, odd, Prologued, Body, Returned, Keeps}
 use Rattle.frame.specs.declared.Request.{Request}
 use Rattle.frame.proofs.Accepted.{no-pairs, accepted}
 use Rattle.frame.proofs.Saves.{All, all-both, all-append, all-split, Sound}
@@ -26,22 +27,22 @@ use Rattle.frame.proofs.WordsIn.{words-in, prologue-small, epilogue-sma
 
 -- what holds of all saves of a request holds of those of each named register
 module _ (r : Request) (P : Save → Type 0) (a : All P (savesOf r)) where
-  halves : All P (collect (pairAt (floatingAt r) (r .pairs)) (r .pairs) 6) × All P (collect (registerAt (generalAt r) (r .general)) (r .general) 32)
+  saves-split : All P (pairsOf r) × All P (registersOf r)
   unfolding savesOf
-  halves = all-split P (collect (pairAt (floatingAt r) (r .pairs)) (r .pairs) 6) _ a
+  saves-split = all-split P (pairsOf r) (registersOf r) a
 
-  at-pair : (k : ℕ) → k < 6 → named (r .pairs) k ≡ true → All P (pairAt (floatingAt r) (r .pairs) k)
-  at-pair k = collect-at P (pairAt (floatingAt r) (r .pairs)) (r .pairs) 6 k (halves .0)
+  holds-of-pair : (k : ℕ) → k < 6 → names (r .pairs) k ≡ true → All P (pairAt (floatingAt r) (r .pairs) k)
+  holds-of-pair k = collect-at P (pairAt (floatingAt r) (r .pairs)) (r .pairs) 6 k (saves-split .0)
 
-  at-register : (k : ℕ) → k < 32 → named (r .general) k ≡ true → All P (registerAt (generalAt r) (r .general) k)
-  at-register k = collect-at P (registerAt (generalAt r) (r .general)) (r .general) 32 k (halves .1)
+  holds-of-register : (k : ℕ) → k < 32 → names (r .general) k ≡ true → All P (registerAt (generalAt r) (r .general) k)
+  holds-of-register k = collect-at P (registerAt (generalAt r) (r .general)) (r .general) 32 k (saves-split .1)
 
 -- what holds of every save word holds of all saves of a request
 module _ (r : Request) (P : ℕ → Type 0) (h : (o : ℕ) → SaveWord r o → P o) where
-  at-saves : All (λ (v : Save). P (v .offset)) (savesOf r)
+  holds-of-saves : All (λ (v : Save). P (v .offset)) (savesOf r)
   unfolding savesOf
-  at-saves =
-      all-append _ (collect (pairAt (floatingAt r) (r .pairs)) (r .pairs) 6) _
+  holds-of-saves =
+      all-append _ (pairsOf r) (registersOf r)
       (collect-all _ (pairAt (floatingAt r) (r .pairs)) (r .pairs) 6 (λ k l n. (h _ (even k l n), (h _ (odd k l n), tt))))
       (collect-all _ (registerAt (generalAt r) (r .general)) (r .general) 32 (λ k l n. (h _ (register k l n), tt)))
 
@@ -52,34 +53,34 @@ prologued r n s t e = record {
   sp = e .sp;
   general = e .general;
   floating = e .floating;
-  elsewhere = λ a h. e .elsewhere a (at-saves r (λ (o : ℕ). a ≡ t .reg 29 + o → ⊥) h);
-  registers = λ k h n. at-register r _ (e .saved) k h n .0;
-  even = λ k h n. at-pair r _ (e .saved) k h n .0;
-  odd = λ k h n. at-pair r _ (e .saved) k h n .1 .0;
+  elsewhere = λ a h. e .elsewhere a (holds-of-saves r (λ (o : ℕ). a ≡ t .reg 29 + o → ⊥) h);
+  registers = λ k h n. holds-of-register r _ (e .saved) k h n .0;
+  even = λ k h n. holds-of-pair r _ (e .saved) k h n .0;
+  odd = λ k h n. holds-of-pair r _ (e .saved) k h n .1 .0;
 }
 
 returned : (r : Request) (s w : State) → Entry (frameOf r) s → Left (savesOf r) s w → Returned r s w
 returned r s w e l = record {
   sp = l .sp;
-  general = λ k h n. at-register r _ (l .named) k h n .0;
-  even = λ k h n. at-pair r _ (l .named) k h n .0;
-  odd = λ k h n. at-pair r _ (l .named) k h n .1 .0;
+  general = λ k h n. holds-of-register r _ (l .registers) k h n .0;
+  even = λ k h n. holds-of-pair r _ (l .registers) k h n .0;
+  odd = λ k h n. holds-of-pair r _ (l .registers) k h n .1 .0;
   at = l .at;
   slot = l .slot;
   whole = omega (arith, l .at, e .four);
 }
 
 return : (r : Request) (n : ℕ) (s t u : State) → Entered (frameOf r) (savesOf r) n s t → Body r t u → Returns (savesOf r) s u
-return r n s t u e b = by (named (r .general) 31) refl
+return r n s t u e b = by (names (r .general) 31) refl
   where
-    by : (x : Bool) → named (r .general) 31 ≡ x → Returns (savesOf r) s u
-    by true n = inr (λ w a. at-register r _ a 31 (omega arith) n .0)
+    by : (x : Bool) → names (r .general) 31 ≡ x → Returns (savesOf r) s u
+    by true n = inr (λ w a. holds-of-register r _ a 31 (omega arith) n .0)
     by false n = inl (b .return n ∙ e .general 31 (λ q. omega arith))
 
 -- what the words do, the bytes do that they make
-in-bytes : {P Q : State → Type 0} (code : ℕ → ℕ) (ws : List ℕ) (s : State) → wordsIn (bytesOfWords ws) ≡ ws → Ready code (bytesOfWords ws) s
+runs-in-bytes : {P Q : State → Type 0} (code : ℕ → ℕ) (ws : List ℕ) (s : State) → wordsIn (bytesOfWords ws) ≡ ws → Ready code (bytesOfWords ws) s
     → (Holds code (s .pc) ws → Runs code ws s P) → ((t : State) → P t → Q t) → Runs code (wordsIn (bytesOfWords ws)) s Q
-in-bytes code ws s e c runs h =
+runs-in-bytes code ws s e c runs h =
     let r = runs (subst (Holds code (s .pc)) e (c .words)) in
     record { last = r .last; ran = ap (λ (l : List ℕ). run (length l) code s) e ∙ r .ran; holds = h (r .last) (r .holds) }
 
@@ -89,24 +90,24 @@ frames x r ok code s e c =
     let F : ℕ = frameOf r in
     let vs : List Save = savesOf r in
     let d : Sound F vs = sound (accepted x r ok) in
-    in-bytes code (prologueFor F vs) s (words-in (prologueFor F vs) (prologue-small F vs d)) c (prologue code F vs s d e (c .whole) (c .slot))
+    runs-in-bytes code (prologueFor F vs) s (words-in (prologueFor F vs) (prologue-small F vs d)) c (prologue code F vs s d e (c .whole) (c .slot))
     (λ t p. (
       prologued r _ s t (subst (λ (n : ℕ). Entered F vs n s t) (sym (ap length (words-in (prologueFor F vs) (prologue-small F vs d)))) p),
-      λ u b k. in-bytes code (epilogueFor F vs) u (words-in (epilogueFor F vs) (epilogue-small F vs d)) k
+      λ u b k. runs-in-bytes code (epilogueFor F vs) u (words-in (epilogueFor F vs) (epilogue-small F vs d)) k
           (epilogue code (t .reg 29) F vs s u d e (p .sp) (record { whole = k .whole; slot = k .slot; sp = b .sp })
-          (all-both vs (λ v x y. x ∙ y) (at-saves r (λ (o : ℕ). u .mem (t .reg 29 + o) ≡ t .mem (t .reg 29 + o)) (b .saves)) (p .saved)) (return r _ s t u p b))
+          (all-both vs (λ v x y. x ∙ y) (holds-of-saves r (λ (o : ℕ). u .mem (t .reg 29 + o) ≡ t .mem (t .reg 29 + o)) (b .saves)) (p .saved)) (return r _ s t u p b))
           (λ w l. returned r s w e l),
     ))
 
-none-named : (k : ℕ) → named 0 k ≡ false
-none-named k = rw (zero-div (2 ^ k))
+zero-names-none : (k : ℕ) → names 0 k ≡ false
+zero-names-none k = rw (zero-div (2 ^ k))
 
 -- Without a floating-point unit an accepted request names no pair (refusal 14), so its code has no floating instruction: all saves
 -- are of general registers.
 pub no-floats : (r : Request) → refusalOf NoFpu r ≡ 0 → All (λ (v : Save). v .float ≡ false) (savesOf r)
 unfolding savesOf
 no-floats r ok =
-    all-append _ (collect (pairAt (floatingAt r) (r .pairs)) (r .pairs) 6) _
+    all-append _ (pairsOf r) (registersOf r)
     (collect-all _ (pairAt (floatingAt r) (r .pairs)) (r .pairs) 6
-    (λ k l n. absurd (true≢false (sym n ∙ ap (λ (m : ℕ). named m k) (no-pairs r ok) ∙ none-named k))))
+    (λ k l n. absurd (true≢false (sym n ∙ ap (λ (m : ℕ). names m k) (no-pairs r ok) ∙ zero-names-none k))))
     (collect-all _ (registerAt (generalAt r) (r .general)) (r .general) 32 (λ k l n. (refl, tt)))

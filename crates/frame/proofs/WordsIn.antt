@@ -6,8 +6,9 @@ use mathlib.Core.List.{List, [], _∷_, _++_, map, append-nil}
 use Prim.Native.Nat.{ℕ, _+_, _-_, _^_, _<_}
 use native.Mathlib.Omega.{arith}
 use lib.Dec.{eqb}
-use Rattle.frame.specs.Words.{Save, wordOf, storeWord, prologueFor, epilogueFor, bytesOfWords}
-use Rattle.frame.specs.Demand.{wordsIn}
+use Rattle.frame.specs.Words.{Save, wordOf, storeWord, prologueFor, epilogueFor}
+use Rattle.words.specs.Words.{bytesOfWords}
+use Rattle.frame.specs.Keeping.{wordsIn}
 use Rattle.frame.proofs.Saves.{All, Span, span-le, Fit, Sound}
 
 -- Each of them has 32 bits.

@@ -1,5 +1,5 @@
 -- The frame of a request on a device: what is refused, and where everything lies ("Frames"). Only refusal 14 looks at the device.
-use mathlib.Core.List.{[], _∷_}
+use mathlib.Core.List.{List, [], _∷_}
 use mathlib.Core.Bool.{Bool, false, cond, not, _&&_, _||_}
 use Prim.Native.Nat.{ℕ, _+_, _*_, max}
 use lib.Bits.{bitAnd}
@@ -9,37 +9,54 @@ use Rattle.device.specs.declared.Device.{Device}
 use Rattle.device.specs.declared.Device.the-variants.{Fpu, NoFpu}
 use Rattle.frame.specs.declared.Request.{Request}
 use Rattle.frame.specs.declared.Layout.{Layout}
-use Rattle.frame.specs.Masks.{named, below, maskOf}
+use Rattle.frame.specs.Masks.{names, countBelow, maskOf}
 
 -- The general registers that may be saved: "`$16`..`$23`, `$30`, `$31`".
+abbrev pub savableRegisters : List ℕ
+savableRegisters = 16 ∷ 17 ∷ 18 ∷ 19 ∷ 20 ∷ 21 ∷ 22 ∷ 23 ∷ 30 ∷ 31 ∷ []
+
 abbrev pub savable : ℕ
-savable = maskOf (16 ∷ 17 ∷ 18 ∷ 19 ∷ 20 ∷ 21 ∷ 22 ∷ 23 ∷ 30 ∷ 31 ∷ [])
+savable = maskOf savableRegisters
+
+-- The largest mask of pairs: "k from 0 to 5".
+abbrev pub pairsMost : ℕ
+pairsMost = 63
 
 -- "9: general mask outside `$16`..`$23`, `$30`, `$31`, or pair mask above 63".
-abbrev pub outside : Request → Bool
-outside r = not (eqb (bitAnd (r .general) savable) (r .general)) || ltb 63 (r .pairs)
+abbrev pub namesUnsavable : Request → Bool
+namesUnsavable r = not (eqb (bitAnd (r .general) savable) (r .general)) || ltb pairsMost (r .pairs)
 
 -- Request (ii) of document 02. "14, pair mask not 0 on this device, directly after 9": on the one without a floating-point unit.
-abbrev pub pairsWithoutUnit : Device → Request → Bool
-pairsWithoutUnit Fpu r = false
-pairsWithoutUnit NoFpu r = not (eqb (r .pairs) 0)
+abbrev pub hasPairsWithoutUnit : Device → Request → Bool
+hasPairsWithoutUnit Fpu r = false
+hasPairsWithoutUnit NoFpu r = not (eqb (r .pairs) 0)
 
 -- "10: not a leaf and `$31` not named".
-abbrev pub unreturning : Request → Bool
-unreturning r = not (r .leaf) && not (named (r .general) 31)
+abbrev pub losesReturn : Request → Bool
+losesReturn r = not (r .leaf) && not (names (r .general) 31)
+
+-- "11: L above 16,384".
+abbrev pub localsMost : ℕ
+localsMost = 16384
+
+abbrev pub exceedsLocals : Request → Bool
+exceedsLocals r = ltb localsMost (r .locals)
 
 -- "12: outgoing above 1,024, or not 0 in a leaf".
-abbrev pub overfull : Request → Bool
-overfull r = ltb 1024 (r .outgoing) || (r .leaf && not (eqb (r .outgoing) 0))
+abbrev pub outgoingMost : ℕ
+outgoingMost = 1024
 
--- "Checks in this order": the refusal's number, 0 for none. Between them "11: L above 16,384".
+abbrev pub exceedsOutgoing : Request → Bool
+exceedsOutgoing r = ltb outgoingMost (r .outgoing) || (r .leaf && not (eqb (r .outgoing) 0))
+
+-- "Checks in this order": the refusal's number, 0 for none.
 unfoldable pub refusalOf : Device → Request → ℕ
 refusalOf d r =
-    cond (outside r) 9
-    (cond (pairsWithoutUnit d r) 14
-    (cond (unreturning r) 10
-    (cond (ltb 16384 (r .locals)) 11
-    (cond (overfull r) 12 0))))
+    cond (namesUnsavable r) 9
+    (cond (hasPairsWithoutUnit d r) 14
+    (cond (losesReturn r) 10
+    (cond (exceedsLocals r) 11
+    (cond (exceedsOutgoing r) 12 0))))
 
 -- "B is outgoing rounded up to 8, at least 16 in a non-leaf, 0 in a leaf."
 abbrev pub buildFor : Bool → ℕ → ℕ
@@ -55,15 +72,18 @@ floatingAt r = buildOf r
 
 -- "a pair takes 8".
 unfoldable pub generalAt : Request → ℕ
-generalAt r = floatingAt r + 8 * below (r .pairs) 6
+generalAt r = floatingAt r + 8 * countBelow (r .pairs) 6
 
 -- "The general area has four bytes for each register named in the mask, rounded up to 8".
 unfoldable pub localsAt : Request → ℕ
-localsAt r = generalAt r + up 8 (4 * below (r .general) 32)
+localsAt r = generalAt r + up 8 (4 * countBelow (r .general) 32)
 
--- "The frame F is the end of locals rounded up to 8".
+-- "The frame F is the end of locals rounded up to 8, at most 17,496."
 unfoldable pub frameOf : Request → ℕ
 frameOf r = up 8 (localsAt r + r .locals)
+
+abbrev pub frameMost : ℕ
+frameMost = 17496
 
 -- "The layout answers F, B and the offsets of the floating save area, the general save area and the locals"; on a refusal
 -- "Place is 0, .. and the layout's numbers are all 0."

@@ -1,4 +1,4 @@
 pub mod Masks
 pub mod Frame
 pub mod Words
-pub mod Demand
+pub mod Keeping

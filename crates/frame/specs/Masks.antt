@@ -8,16 +8,16 @@ use lib.Dec.{eqb}
 abbrev pub bit : ℕ → ℕ → ℕ
 bit m k = m / 2 ^ k % 2
 
--- "bit k is `$k`".
-abbrev pub named : ℕ → ℕ → Bool
-named m k = eqb (bit m k) 1
+-- Whether a mask names k: "bit k is `$k`".
+abbrev pub names : ℕ → ℕ → Bool
+names m k = eqb (bit m k) 1
 
 -- How many below k a mask names.
-unfoldable pub below : ℕ → ℕ → ℕ
-below m zero = 0
-below m (suc k) = below m k + bit m k
+unfoldable pub countBelow : ℕ → ℕ → ℕ
+countBelow m zero = 0
+countBelow m (suc k) = countBelow m k + bit m k
 
--- The mask that names these, each of them listed once.
+-- The mask that names these, where each of them is listed once.
 abbrev pub maskOf : List ℕ → ℕ
 maskOf [] = 0
 maskOf (k ∷ ks) = 2 ^ k + maskOf ks

@@ -15,32 +15,14 @@ ghost use Prim.Native.Nat.{_≤_};
 ghost use lib.ListN.{length};
 use answers::Answer;
 use device::Device;
-use libc::STDIN_FILENO;
-use libc::STDOUT_FILENO;
 use frame::Layout;
 use frame::Request;
+use libc::STDIN_FILENO;
+use libc::STDOUT_FILENO;
 
 // A text to standard output. Of what is printed the language has nothing to promise.
 fn print(text: &[u8]) {
     io::write_all(STDOUT_FILENO, text);
-}
-
-// The answer to a line that has another form.
-fn malformed() {
-    print(b"malformed\n");
-}
-
-fn show(answer: Answer, out: &[u8; 4096]) {
-    let mut text = [0u8; 16504];
-    let n = case_output::answer_text(answer, out, &mut text);
-    print(&text[..n]);
-}
-
-// A refusal as a line: 23 bytes and the digits of three numbers, at most 20 each.
-fn print_refusal(number: u32, place: usize, argument: usize) {
-    let mut out = [0u8; 83];
-    let n = text::refusal_text(number, place, argument, &mut out);
-    print(&out[..n]);
 }
 
 fn print_number(name: &[u8], n: u32) {
@@ -49,9 +31,7 @@ fn print_number(name: &[u8], n: u32) {
 }
 
 fn print_layout(layout: Layout) {
-    if layout.refusal != 0 || layout.place != 0 {
-        print_refusal(layout.refusal, layout.place as usize, 0);
-    }
+    case_output::print_refusal(layout.refusal, layout.place as usize, 0);
     print_number(b"F ", layout.frame);
     print_number(b", B ", layout.build);
     print_number(b", floating ", layout.floating);
@@ -61,7 +41,7 @@ fn print_layout(layout: Layout) {
 }
 
 // The request in five words.
-fn request_in(words: &[u8]) -> Request
+fn request_of(words: &[u8]) -> Request
     requires { ⌜ 20 ≤ length (now words) ⌝ }
 {
     Request {
@@ -81,51 +61,56 @@ fn code_of(device: Device, request: Request, back: bool, out: &mut [u8]) -> Answ
     frame_code::prologue(device, request, out)
 }
 
-fn show_code(room: usize, device: Device, request: Request, back: bool)
+fn print_code(device: Device, room: usize, request: Request, back: bool)
     requires { ⌜ room ≤ 4096 ⌝ }
 {
-    let mut out = case_output::fresh();
+    let mut out = case_output::fresh_buffer();
     let answer = code_of(device, request, back, &mut out[..room]);
-    show(answer, &out);
+    case_output::print_answer(answer, &out);
 }
 
-// The frame of a line.
+// The layout, the prologue and the epilogue of a request.
+fn print_frame(device: Device, room: usize, request: Request)
+    requires { ⌜ room ≤ 4096 ⌝ }
+{
+    print_layout(frame_code::layout_of(device, request));
+    print(b"prologue\n");
+    print_code(device, room, request, false);
+    print(b"epilogue\n");
+    print_code(device, room, request, true);
+}
+
+// The case of a line. A comment is none.
 fn run(line: &[u8])
     requires { ⌜ 1 ≤ length (now line) ⌝ }
 {
+    if line[0] == b'#' {
+        return;
+    }
     let device = case_input::device_of(line);
     let room = case_input::room(line);
     let mut words = io::buffer();
-    let n = case_input::bytes(line, room.end, line.len(), &mut words);
-    if n != 20 {
-        return malformed();
+    let n = case_input::put_field(line, room.end, line.len(), &mut words);
+    if n != 20 || room.value > 4096 {
+        return print(b"malformed\n");
     }
-    if room.value > 4096 {
-        return malformed();
-    }
-    let request = request_in(&words);
-    print_layout(frame_code::layout_of(device, request));
-    print(b"prologue\n");
-    show_code(room.value, device, request, false);
-    print(b"epilogue\n");
-    show_code(room.value, device, request, true);
+    print_frame(device, room.value, request_of(&words));
 }
 
-fn print_line(line: &[u8]) {
-    print(line);
-    print(b"\n");
+// Prints each line of a text, and runs its case.
+fn run_lines(text: &[u8]) {
+    let mut at = 0;
+    while at < text.len() {
+        let end = case_output::print_line(text, at);
+        if end > at {
+            run(&text[at..end]);
+        }
+        at = end + 1;
+    }
 }
 
 fn main() {
     let mut text = [0u8; 16384];
     let n = io::read_full(STDIN_FILENO, &mut text);
-    let mut at = 0;
-    while at < n {
-        let end = case_input::find(&text[..n], at, b'\n');
-        print_line(&text[at..end]);
-        if case_input::is_case(&text[at..end]) {
-            run(&text[at..end]);
-        }
-        at = end + 1;
-    }
+    run_lines(&text[..n]);
 }

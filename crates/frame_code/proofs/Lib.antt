@@ -2,4 +2,3 @@ pub mod Bytes
 pub mod Answers
 pub mod Longest
 pub mod Link
-pub mod Cases

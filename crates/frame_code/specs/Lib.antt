@@ -1,2 +1,3 @@
 pub mod Code
+pub mod Areas
 pub mod Longest

@@ -5,19 +5,22 @@ ghost use mathlib.Core.Path.{_≡_};
 ghost use Prim.Native.Nat.{_*_, _+_, _-_, _<_, _≤_};
 ghost use lib.ListN.{length};
 ghost use lib.Seq.{sets};
-ghost use Rattle.words.specs.Words.{up};
-ghost use Rattle.answers.specs.Answers.{answerOf, bufferOf};
-ghost use Rattle.frame.specs.Frame.{buildFor, floatingAt, generalAt, layoutOf, outside, overfull, pairsWithoutUnit, refusalOf, unreturning};
-ghost use Rattle.frame.specs.Words.{bytesOfWords, savesOf, slotFor, wordOf};
+ghost use Rattle.words.specs.Words.{up, bytesOfWords};
+ghost use Rattle.answers.specs.Outcomes.{answerOf, bufferOf};
+ghost use Rattle.frame.specs.Frame.{buildFor, exceedsOutgoing, frameMost, hasPairsWithoutUnit, layoutOf, losesReturn, namesUnsavable, outgoingMost, refusalOf};
+ghost use Rattle.frame.specs.Words.{savesOf, slotFor, wordOf};
+ghost use Rattle.frame_words.specs.Limits.{opMost};
+ghost use Rattle.frame_code.specs.Areas.{Areas};
 ghost use Rattle.frame_code.specs.Code.{epilogueInto, prologueInto};
+ghost use Rattle.frame_code.specs.Longest.{savesMost};
 use answers::Answer;
 use device::Device;
 use frame::Layout;
 use frame::Request;
 
 // Refusal 9: a general register that may not be saved, or a pair mask above 63.
-fn is_outside(request: Request) -> bool
-    ensures { λ r. ⌜ r ≡ outside request ⌝ }
+fn names_unsavable(request: Request) -> bool
+    ensures { λ r. ⌜ r ≡ namesUnsavable request ⌝ }
 {
     let general = request.general;
     if general & 0xC0FF_0000 != general {
@@ -28,7 +31,7 @@ fn is_outside(request: Request) -> bool
 
 // Refusal 14: pairs to save on a device without a floating-point unit.
 fn has_pairs_without_unit(device: Device, request: Request) -> bool
-    ensures { λ r. ⌜ r ≡ pairsWithoutUnit device request ⌝ }
+    ensures { λ r. ⌜ r ≡ hasPairsWithoutUnit device request ⌝ }
 {
     let Device::NoFpu = device else {
         return false;
@@ -37,8 +40,8 @@ fn has_pairs_without_unit(device: Device, request: Request) -> bool
 }
 
 // Refusal 10: not a leaf, and `$31` not named.
-fn is_unreturning(request: Request) -> bool
-    ensures { λ r. ⌜ r ≡ unreturning request ⌝ }
+fn loses_return(request: Request) -> bool
+    ensures { λ r. ⌜ r ≡ losesReturn request ⌝ }
 {
     if request.leaf {
         return false;
@@ -47,8 +50,8 @@ fn is_unreturning(request: Request) -> bool
 }
 
 // Refusal 12: too many bytes of outgoing arguments, or any in a leaf.
-fn is_overfull(request: Request) -> bool
-    ensures { λ r. ⌜ r ≡ overfull request ⌝ }
+fn exceeds_outgoing(request: Request) -> bool
+    ensures { λ r. ⌜ r ≡ exceedsOutgoing request ⌝ }
 {
     if request.outgoing > 1024 {
         return true;
@@ -63,30 +66,26 @@ fn is_overfull(request: Request) -> bool
 fn refusal(device: Device, request: Request) -> u32
     ensures { λ r. ⌜ r ≡ refusalOf device request ⌝ }
 {
-    let outside = is_outside(request);
-    let without_unit = has_pairs_without_unit(device, request);
-    let unreturning = is_unreturning(request);
-    let overfull = is_overfull(request);
-    if outside {
+    if names_unsavable(request) {
         return 9;
     }
-    if without_unit {
+    if has_pairs_without_unit(device, request) {
         return 14;
     }
-    if unreturning {
+    if loses_return(request) {
         return 10;
     }
     if request.locals > 16384 {
         return 11;
     }
-    if overfull {
+    if exceeds_outgoing(request) {
         return 12;
     }
     0
 }
 
 fn round_up(n: u32) -> u32
-    requires { ⌜ n ≤ 20000 ⌝ }
+    requires { ⌜ n ≤ frameMost ⌝ }
     ensures { λ r. ⌜ r ≡ up 8 n ⌝ }
 {
     (n + 7) / 8 * 8
@@ -94,7 +93,7 @@ fn round_up(n: u32) -> u32
 
 // The bytes of the argument build area.
 fn build_area(leaf: bool, outgoing: u32) -> u32
-    requires { ⌜ outgoing ≤ 1024 ⌝ }
+    requires { ⌜ outgoing ≤ outgoingMost ⌝ }
     ensures { λ r. ⌜ r ≡ buildFor leaf outgoing ⌝ }
 {
     if leaf {
@@ -136,13 +135,13 @@ pub fn layout_of(device: Device, request: Request) -> Layout
 
 // The bytes of one instruction for each register that a request names, two for a pair; its masks are not refused 9.
 fn saves_length(request: Request) -> usize
-    requires { ⌜ outside request ≡ false ⌝ }
-    ensures { λ r. ⌜ (r ≡ 4 * length (savesOf request)) × (r ≤ 88) ⌝ }
+    requires { ⌜ namesUnsavable request ≡ false ⌝ }
+    ensures { λ r. ⌜ (r ≡ 4 * length (savesOf request)) × (r ≤ savesMost) ⌝ }
 {
     (8 * u32::count_ones(request.pairs) + 4 * u32::count_ones(request.general)) as usize
 }
 
-// One instruction for each save word of a request, by its layout, from a place on; the place behind them. fop and gop are the
+// One instruction for each save word of a request, by its layout, from a place on; the place after them. fop and gop are the
 // instruction's word for floating and for general registers, with register 0 and offset 0.
 fn put_saves(
     out: &mut [u8],
@@ -152,20 +151,19 @@ fn put_saves(
     request: Request,
     layout: Layout,
 ) -> usize
-    requires { ⌜ (outside request ≡ false) × (fop ≤ 0xE7A00000) × (gop ≤ 0xE7A00000) ⌝ }
-    requires { ⌜ (layout .floating ≡ floatingAt request) × (layout .general ≡ generalAt request) ⌝ }
-    requires { ⌜ (layout .floating ≤ 4096) × (layout .general ≤ 4096) ⌝ }
+    requires { ⌜ Areas request layout ⌝ }
+    requires { ⌜ (fop ≤ opMost) × (gop ≤ opMost) ⌝ }
     requires { ⌜ at + 4 * length (savesOf request) ≤ length (now out) ⌝ }
     ensures { λ r. ⌜ r ≡ at + 4 * length (savesOf request) ⌝ }
     ensures { λ _. ⌜ now (out .exit) ≡ sets (now (out .entry)) at (bytesOfWords (map (λ v. wordOf (cond (v .float) fop gop) v) (savesOf request))) ⌝ }
 {
-    let behind = frame_words::put_pairs(out, at, fop, request.pairs, layout.floating);
-    frame_words::put_registers(out, behind, gop, request.general, layout.general)
+    let next = frame_words::put_pairs(out, at, fop, request.pairs, layout.floating);
+    frame_words::put_registers(out, next, gop, request.general, layout.general)
 }
 
 // The low 16 bits of -f, through a signed halfword.
-fn negated(f: u32) -> u32
-    requires { ⌜ (0 < f) × (f ≤ 17496) ⌝ }
+fn negate(f: u32) -> u32
+    requires { ⌜ (0 < f) × (f ≤ frameMost) ⌝ }
     ensures { λ r. ⌜ r ≡ 65536 - f ⌝ }
 {
     let n = -(f as i16);
@@ -190,14 +188,14 @@ pub fn prologue(device: Device, request: Request, out: &mut [u8]) -> Answer
     if out.len() < length { // all of it, before the first store
         return answers::reply(13, 0, 0, 0);
     }
-    words::write_word(out, 0, 0x27BD_0000 + negated(frame));
+    words::write_word(out, 0, 0x27BD_0000 + negate(frame));
     put_saves(out, 4, 0xE7A0_0000, 0xAFA0_0000, request, layout);
     answers::reply(0, 0, 0, length)
 }
 
 // The word in the delay slot: `addiu $sp,$sp,f`, or 00000000 where there is no frame.
 fn delay_slot(f: u32) -> u32
-    requires { ⌜ f ≤ 17496 ⌝ }
+    requires { ⌜ f ≤ frameMost ⌝ }
     ensures { λ r. ⌜ r ≡ slotFor f ⌝ }
 {
     if f == 0 { 0 } else { 0x27BD_0000 + f }
@@ -217,9 +215,7 @@ pub fn epilogue(device: Device, request: Request, out: &mut [u8]) -> Answer
     if out.len() < length {
         return answers::reply(13, 0, 0, 0);
     }
-    let slot = delay_slot(layout.frame);
-    let last = put_saves(out, 0, 0xC7A0_0000, 0x8FA0_0000, request, layout);
-    words::write_word(out, last, 0x03E0_0008);
-    words::write_word(out, last + 4, slot);
+    let next = put_saves(out, 0, 0xC7A0_0000, 0x8FA0_0000, request, layout);
+    frame_words::put_two_words(out, next, 0x03E0_0008, delay_slot(layout.frame));
     answers::reply(0, 0, 0, length)
 }

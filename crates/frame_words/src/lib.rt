@@ -5,13 +5,15 @@ ghost use mathlib.Core.Path.{_≡_};
 ghost use Prim.Native.Nat.{_%_, _*_, _+_, _<_, _≤_};
 ghost use lib.ListN.{length};
 ghost use lib.Seq.{sets};
-ghost use Rattle.frame.specs.Masks.{below, named};
-ghost use Rattle.frame.specs.Words.{bytesOfWords, collect, pairAt, registerAt, wordOf};
+ghost use Rattle.frame.specs.Masks.{countBelow, names};
+ghost use Rattle.words.specs.Words.{bytesOfWords};
+ghost use Rattle.frame.specs.Words.{collect, pairAt, registerAt, wordOf};
+ghost use Rattle.frame_words.specs.Limits.{offsetMost, opMost, startMost};
 
 // Whether a mask names register k.
 fn is_named(mask: u32, k: u32) -> bool
     requires { ⌜ k < 32 ⌝ }
-    ensures { λ r. ⌜ r ≡ named mask k ⌝ }
+    ensures { λ r. ⌜ r ≡ names mask k ⌝ }
 {
     (mask >> k) % 2 == 1
 }
@@ -19,36 +21,44 @@ fn is_named(mask: u32, k: u32) -> bool
 // How many registers below k a mask names.
 fn count_below(mask: u32, k: u32) -> u32
     requires { ⌜ k < 32 ⌝ }
-    ensures { λ r. ⌜ (r ≡ below mask k) × (r ≤ k) ⌝ }
+    ensures { λ r. ⌜ (r ≡ countBelow mask k) × (r ≤ k) ⌝ }
 {
     u32::count_ones(mask % (1 << k))
 }
 
 // The instruction on a register's save word.
 fn word(op: u32, number: u32, offset: u32) -> u32
-    requires { ⌜ (op ≤ 0xE7A00000) × (number < 32) × (offset ≤ 8192) ⌝ }
+    requires { ⌜ (op ≤ opMost) × (number < 32) × (offset ≤ offsetMost) ⌝ }
     ensures { λ r. ⌜ r ≡ op + 65536 * number + offset ⌝ }
 {
     op + 65536 * number + offset
 }
 
+// Two words at a place.
+pub fn put_two_words(out: &mut [u8], at: usize, first: u32, second: u32)
+    requires { ⌜ at + 8 ≤ length (now out) ⌝ }
+    ensures { λ _. ⌜ now (out .exit) ≡ sets (now (out .entry)) at (bytesOfWords (first ∷ second ∷ [])) ⌝ }
+{
+    words::write_word(out, at, first);
+    words::write_word(out, at + 4, second);
+}
+
 // The two instructions on pair k, whose save words lie at an offset.
 fn put_pair(out: &mut [u8], at: usize, op: u32, offset: u32, k: u32)
-    requires { ⌜ (op ≤ 0xE7A00000) × (offset + 4 ≤ 8192) × (k < 6) × (at + 8 ≤ length (now out)) ⌝ }
+    requires { ⌜ (op ≤ opMost) × (offset + 4 ≤ offsetMost) × (k < 6) × (at + 8 ≤ length (now out)) ⌝ }
     ensures { λ _. ⌜ now (out .exit) ≡ sets (now (out .entry)) at (bytesOfWords ((op + 65536 * (20 + 2 * k) + offset) ∷ (op + 65536 * (21 + 2 * k) + (offset + 4)) ∷ [])) ⌝ }
 {
     let even = word(op, 20 + 2 * k, offset);
     let odd = word(op, 21 + 2 * k, offset + 4);
-    words::write_word(out, at, even);
-    words::write_word(out, at + 4, odd);
+    put_two_words(out, at, even, odd);
 }
 
-// The instructions on the pairs that a mask names, whose save area starts at an offset; the place behind them. The save words
+// The instructions on the pairs that a mask names, whose save area starts at an offset; the place after them. The save words
 // lie without gaps, so the next one's offset is carried along.
 pub fn put_pairs(out: &mut [u8], at: usize, op: u32, mask: u32, start: u32) -> usize
-    requires { ⌜ (op ≤ 0xE7A00000) × (start ≤ 4096) ⌝ }
-    requires { ⌜ at + 8 * below mask 6 ≤ length (now out) ⌝ }
-    ensures { λ r. ⌜ r ≡ at + 8 * below mask 6 ⌝ }
+    requires { ⌜ (op ≤ opMost) × (start ≤ startMost) ⌝ }
+    requires { ⌜ at + 8 * countBelow mask 6 ≤ length (now out) ⌝ }
+    ensures { λ r. ⌜ r ≡ at + 8 * countBelow mask 6 ⌝ }
     ensures { λ _. ⌜ now (out .exit) ≡ sets (now (out .entry)) at (bytesOfWords (map (wordOf op) (collect (pairAt start mask) mask 6))) ⌝ }
 {
     let mut n = at;
@@ -65,13 +75,13 @@ pub fn put_pairs(out: &mut [u8], at: usize, op: u32, mask: u32, start: u32) -> u
     n
 }
 
-// The instructions on the general registers that a mask names, in a save area that starts at an offset; the place behind them.
+// The instructions on the general registers that a mask names, in a save area that starts at an offset; the place after them.
 // No register below $16 is ever saved, so none is looked for there.
 pub fn put_registers(out: &mut [u8], at: usize, op: u32, mask: u32, start: u32) -> usize
-    requires { ⌜ (op ≤ 0xE7A00000) × (start ≤ 4096) ⌝ }
-    requires { ⌜ at + 4 * below mask 32 ≤ length (now out) ⌝ }
+    requires { ⌜ (op ≤ opMost) × (start ≤ startMost) ⌝ }
+    requires { ⌜ at + 4 * countBelow mask 32 ≤ length (now out) ⌝ }
     requires { ⌜ mask % 65536 ≡ 0 ⌝ }
-    ensures { λ r. ⌜ r ≡ at + 4 * below mask 32 ⌝ }
+    ensures { λ r. ⌜ r ≡ at + 4 * countBelow mask 32 ⌝ }
     ensures { λ _. ⌜ now (out .exit) ≡ sets (now (out .entry)) at (bytesOfWords (map (wordOf op) (collect (registerAt start mask) mask 32))) ⌝ }
 {
     let mut n = at;

@@ -1,2 +1,3 @@
+pub mod KindFacts
 pub mod Table
 pub mod Classes

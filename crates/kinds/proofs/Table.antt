@@ -8,19 +8,19 @@ use native.Mathlib.Omega.{arith}
 use lib.ListN.{drop}
 use lib.Dec.{T, leb}
 use borrow.Author.Tests.{le-leb, leb-true}
-use Rattle.o32.specs.declared.Class.the-variants.{Plain}
-use Rattle.o32.specs.declared.Kind.{Kind}
-use Rattle.o32.specs.Kinds.{Row, row, table, look, kindOf}
-use Rattle.o32_laws.proofs.KindFacts.{endBelow, look-past, look-before}
+use Rattle.kinds.specs.declared.Class.the-variants.{Structure}
+use Rattle.kinds.specs.declared.Kind.{Kind}
+use Rattle.kinds.specs.Kinds.{Row, row, table, look, kindOf}
+use Rattle.kinds.proofs.KindFacts.{endBelow, look-past, look-before}
 
 pub single : (k j : ℕ) (r : Kind) → k ≡ j → r ≡ kindOf j → r ≡ kindOf k
 single k j r e h = h ∙ ap kindOf (sym e)
 
--- a structure's row, behind rows that end below it
+-- a structure's row, after rows that end below it
 pub ranged : (rows more : List Row) (first last : ℕ) (size : ℕ → ℕ) (a k : ℕ) (r : Kind) → T (endBelow first rows) → first ≤ k → k < suc last
-    → r ≡ record { size = size k; alignment = a; class = Plain } → r ≡ look k (rows ++ (row first last size a Plain ∷ more))
+    → r ≡ record { size = size k; alignment = a; class = Structure } → r ≡ look k (rows ++ (row first last size a Structure ∷ more))
 ranged rows more first last size a k r t h g e =
-    e ∙ sym (look-past rows (row first last size a Plain ∷ more) first k t h ∙ rw (le-leb first k h, le-leb k last (omega arith)))
+    e ∙ sym (look-past rows (row first last size a Structure ∷ more) first k t h ∙ rw (le-leb first k h, le-leb k last (omega arith)))
 
 -- k is none of these single kinds
 abbrev pub NoneOf : List ℕ → ℕ → Type 0

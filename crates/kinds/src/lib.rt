@@ -1,9 +1,25 @@
-// What a kind byte means.
+// The kinds of a list: what a kind byte means, in every convention.
 ghost use mathlib.Core.Path.{_≡_};
-ghost use Rattle.o32.specs.Kinds.{classNumber, is, kindOf};
-ghost use Rattle.o32.specs.Offsets.{width};
-use o32::Class;
-use o32::Kind;
+ghost use Rattle.kinds.specs.Kinds.{classNumber, is, kindOf};
+
+// The classes of kinds, by how they are treated.
+pub enum Class {
+    Unknown,
+    Marker,
+    Pointer,
+    Signed,
+    Unsigned,
+    Float,
+    Plain,
+    Structure,
+}
+
+// What a kind byte means: the bytes of its body, its alignment, its class.
+pub struct Kind {
+    pub size: usize,
+    pub alignment: usize,
+    pub class: Class,
+}
 
 // A row of the table of kinds.
 fn row(size: usize, alignment: usize, class: Class) -> Kind
@@ -31,9 +47,9 @@ pub fn kind_of(byte: u8) -> Kind
         0x08 => row(8, 8, Class::Float),
         0x0A => row(0, 0, Class::Marker),
         0x0B => row(4, 4, Class::Pointer),
-        0x40..=0x7F => row(byte as usize - 0x3F, 4, Class::Plain),
-        0x80..=0xBF => row(64 + 4 * (byte as usize - 0x7F), 4, Class::Plain),
-        0xC0..=0xFF => row(8 * (byte as usize - 0xBF), 8, Class::Plain),
+        0x40..=0x7F => row(byte as usize - 0x3F, 4, Class::Structure),
+        0x80..=0xBF => row(64 + 4 * (byte as usize - 0x7F), 4, Class::Structure),
+        0xC0..=0xFF => row(8 * (byte as usize - 0xBF), 8, Class::Structure),
         _ => row(0, 0, Class::Unknown),
     }
 }
@@ -49,6 +65,7 @@ fn class_number(class: Class) -> u32
         Class::Unsigned => 4,
         Class::Float => 5,
         Class::Plain => 6,
+        Class::Structure => 7,
     }
 }
 
@@ -58,17 +75,4 @@ pub fn is_class(class: Class, kind: Kind) -> bool
 {
     let own = kind.class;
     class_number(own) == class_number(class)
-}
-
-// Rule 1: the bytes of an argument after promotion.
-pub fn width_of(kind: Kind) -> usize
-    ensures { λ r. ⌜ r ≡ width kind ⌝ }
-{
-    if is_class(Class::Signed, kind) {
-        return 4;
-    }
-    if is_class(Class::Unsigned, kind) {
-        return 4;
-    }
-    kind.size
 }

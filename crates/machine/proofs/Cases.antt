@@ -4,7 +4,7 @@ use mathlib.Core.Bool.{Bool, true, false, cond, _&&_}
 use mathlib.Core.Option.{Option, some, none}
 use Prim.Native.Nat.{ℕ, _+_, _-_, _^_}
 use lib.Dec.{T, eqb}
-use Rattle.machine.specs.Machine.{State, upd, after, special, byOpcode, decode, read, write, signExtend, sum, step, run}
+use Rattle.machine.specs.Machine.{State, upd, nextAddress, special, instructionOf, decode, read, write, signExtend, sum, step, run}
 
 -- `$29` is 32, `$31` is 400 (hex), the word at address a is a + 1
 abbrev start : State
@@ -49,5 +49,5 @@ instructions : T (
     && stops (run 2 (λ a. 0x03E00008) start)
     && stops (step (λ a. 0xFFFFFFFF) start)
     )
-unfolding step run decode byOpcode special read write upd after signExtend sum
+unfolding step run decode instructionOf special read write upd nextAddress signExtend sum
 instructions = tt

@@ -1,5 +1,5 @@
+pub mod Cases
 pub mod Fields
 pub mod Steps
 pub mod Runs
 pub mod Wide
-pub mod Cases

@@ -6,7 +6,7 @@ use Prim.Native.Nat.{ℕ, _+_, _-_, _%_, _^_, _<_, _≤_}
 use native.Mathlib.Omega.{arith}
 use native.Mathlib.Decide.{ℕ-discrete}
 use borrow.Author.Tests.{eq-eqb, ne-eqb, lt-ltb, le-ltb}
-use Rattle.machine.specs.Machine.{State, Instruction, upd, after, special, byOpcode, decode, read, write, signExtend, sum, onward, jump, execute, step}
+use Rattle.machine.specs.Machine.{State, Instruction, upd, nextAddress, special, instructionOf, decode, read, write, signExtend, sum, proceed, jump, execute, step}
 use Rattle.machine.proofs.Fields.{word, decode-word}
 
 -- a changed place, and the others
@@ -26,9 +26,9 @@ upd-like f g k v i e h = by (ℕ-discrete i k)
     by (yes x) = ap (upd f k v) x ∙ upd-same f k v ∙ e ∙ ap g (sym x)
     by (no x) = upd-other f k v i x ∙ h
 
-pub after-whole : (a : ℕ) → a % 4 ≡ 0 → after a % 4 ≡ 0
-unfolding after
-after-whole a h = omega arith
+pub next-address-whole : (a : ℕ) → a % 4 ≡ 0 → nextAddress a % 4 ≡ 0
+unfolding nextAddress
+next-address-whole a h = omega arith
 
 -- sums that do not wrap: up by an immediate, and down by the negative of one
 pub sum-up : (g : ℕ → ℕ) (s i : ℕ) → 0 < s → i < 2 ^ 15 → g s + i < 2 ^ 32 → sum g s i ≡ g s + i
@@ -43,14 +43,14 @@ step-at : (code : ℕ → ℕ) (s : State) (w : ℕ) → s .pc % 4 ≡ 0 → cod
 unfolding step
 step-at code s w h e = simp (h, e)
 
-pub step-nop : (code : ℕ → ℕ) (s : State) → s .pc % 4 ≡ 0 → code (s .pc) ≡ 0 → step code s ≡ some (onward s (s .reg) (s .freg) (s .mem))
-unfolding decode byOpcode special
+pub step-nop : (code : ℕ → ℕ) (s : State) → s .pc % 4 ≡ 0 → code (s .pc) ≡ 0 → step code s ≡ some (proceed s (s .reg) (s .freg) (s .mem))
+unfolding decode instructionOf special
 step-nop code s h e = step-at code s 0 h e
 
 -- `jr $31`
 pub step-jr : (code : ℕ → ℕ) (s : State) → s .pc % 4 ≡ 0 → s .target ≡ none → code (s .pc) ≡ 0x03E00008
-    → step code s ≡ some (record { reg = s .reg; freg = s .freg; mem = s .mem; pc = after (s .pc); target = some (s .reg 31) })
-unfolding decode byOpcode special read
+    → step code s ≡ some (record { reg = s .reg; freg = s .freg; mem = s .mem; pc = nextAddress (s .pc); target = some (s .reg 31) })
+unfolding decode instructionOf special read
 step-jr code s h n e = step-at code s 0x03E00008 h e ∙ ap (λ (t : Option ℕ). jump s t (s .reg 31)) n
 
 -- An instruction can be fetched, and b, t and i fit its fields: base register, register, immediate.
@@ -61,13 +61,13 @@ pub record Fetched (s : State) (b t i : ℕ) : Type 0 where
   pub immediate : i < 2 ^ 16
 
 module _ {s : State} {b t i : ℕ} (code : ℕ → ℕ) (x : Fetched s b t i) where
-  step-word : (o : ℕ) → o < 2 ^ 6 → code (s .pc) ≡ word o b t i → step code s ≡ execute (byOpcode o b t i (special (word o b t i))) s
+  step-word : (o : ℕ) → o < 2 ^ 6 → code (s .pc) ≡ word o b t i → step code s ≡ execute (instructionOf o b t i (special (word o b t i))) s
   step-word o h e =
       step-at code s (word o b t i) (x .whole) e
       ∙ ap (λ (y : Instruction). execute y s) (decode-word o b t i h (x .base) (x .register) (x .immediate))
 
-  pub step-addiu : 0 < t → code (s .pc) ≡ word 9 b t i → step code s ≡ some (onward s (upd (s .reg) t (sum (s .reg) b i)) (s .freg) (s .mem))
-  unfolding byOpcode write
+  pub step-addiu : 0 < t → code (s .pc) ≡ word 9 b t i → step code s ≡ some (proceed s (upd (s .reg) t (sum (s .reg) b i)) (s .freg) (s .mem))
+  unfolding instructionOf write
   step-addiu z e = step-word 9 (omega arith) e ∙ simp (ne-eqb t 0 (omega arith))
 
 -- And it loads or stores at a, which is the address of a word.
@@ -77,18 +77,18 @@ pub record Access (s : State) (b t i a : ℕ) : Type 0 where
   pub word : a % 4 ≡ 0
 
 module _ {s : State} {b t i a : ℕ} (code : ℕ → ℕ) (x : Access s b t i a) where
-  pub step-lw : 0 < t → code (s .pc) ≡ word 35 b t i → step code s ≡ some (onward s (upd (s .reg) t (s .mem a)) (s .freg) (s .mem))
-  unfolding byOpcode write
+  pub step-lw : 0 < t → code (s .pc) ≡ word 35 b t i → step code s ≡ some (proceed s (upd (s .reg) t (s .mem a)) (s .freg) (s .mem))
+  unfolding instructionOf write
   step-lw z e = step-word code (x .fetched) 35 (omega arith) e ∙ simp (x .at, x .word, ne-eqb t 0 (omega arith))
 
-  pub step-sw : 0 < t → code (s .pc) ≡ word 43 b t i → step code s ≡ some (onward s (s .reg) (s .freg) (upd (s .mem) a (s .reg t)))
-  unfolding byOpcode read
+  pub step-sw : 0 < t → code (s .pc) ≡ word 43 b t i → step code s ≡ some (proceed s (s .reg) (s .freg) (upd (s .mem) a (s .reg t)))
+  unfolding instructionOf read
   step-sw z e = step-word code (x .fetched) 43 (omega arith) e ∙ simp (x .at, x .word, ne-eqb t 0 (omega arith))
 
-  pub step-lwc1 : code (s .pc) ≡ word 49 b t i → step code s ≡ some (onward s (s .reg) (upd (s .freg) t (s .mem a)) (s .mem))
-  unfolding byOpcode
+  pub step-lwc1 : code (s .pc) ≡ word 49 b t i → step code s ≡ some (proceed s (s .reg) (upd (s .freg) t (s .mem a)) (s .mem))
+  unfolding instructionOf
   step-lwc1 e = step-word code (x .fetched) 49 (omega arith) e ∙ simp (x .at, x .word)
 
-  pub step-swc1 : code (s .pc) ≡ word 57 b t i → step code s ≡ some (onward s (s .reg) (s .freg) (upd (s .mem) a (s .freg t)))
-  unfolding byOpcode
+  pub step-swc1 : code (s .pc) ≡ word 57 b t i → step code s ≡ some (proceed s (s .reg) (s .freg) (upd (s .mem) a (s .freg t)))
+  unfolding instructionOf
   step-swc1 e = step-word code (x .fetched) 57 (omega arith) e ∙ simp (x .at, x .word)

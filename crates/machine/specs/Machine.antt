@@ -32,8 +32,8 @@ unfoldable pub upd : (ℕ → ℕ) → ℕ → ℕ → ℕ → ℕ
 upd f k v = λ i. cond (eqb i k) v (f i)
 
 -- The address of the next word; addresses have 32 bits.
-unfoldable pub after : ℕ → ℕ
-after a = (a + 4) % 2 ^ 32
+unfoldable pub nextAddress : ℕ → ℕ
+nextAddress a = (a + 4) % 2 ^ 32
 
 -- The instructions, with registers by number and 16-bit immediates; `other` is every word outside the few.
 pub data Instruction : Type 0 where
@@ -61,8 +61,8 @@ unfoldable pub special : ℕ → Instruction
 special w = cond (eqb w 0) nop (cond (eqb (w % 2 ^ 21) 8) (jr (rs w)) other)
 
 -- The instruction with an opcode, its registers rs and rt and its immediate; `sp` is that of opcode 0.
-unfoldable pub byOpcode : ℕ → ℕ → ℕ → ℕ → Instruction → Instruction
-byOpcode o s t i sp =
+unfoldable pub instructionOf : ℕ → ℕ → ℕ → ℕ → Instruction → Instruction
+instructionOf o s t i sp =
     cond (eqb o 0) sp
     (cond (eqb o 9) (addiu t s i)
     (cond (eqb o 35) (lw t s i)
@@ -71,7 +71,7 @@ byOpcode o s t i sp =
     (cond (eqb o 57) (swc1 t s i) other)))))
 
 unfoldable pub decode : ℕ → Instruction
-decode w = byOpcode (opcode w) (rs w) (rt w) (immediate w) (special w)
+decode w = instructionOf (opcode w) (rs w) (rt w) (immediate w) (special w)
 
 -- GPR 0 reads as 0, and what is written to it is lost.
 unfoldable pub read : (ℕ → ℕ) → ℕ → ℕ
@@ -89,33 +89,33 @@ unfoldable pub sum : (ℕ → ℕ) → ℕ → ℕ → ℕ
 sum g s i = (read g s + signExtend i) % 2 ^ 32
 
 -- An address error where an address of a word is no multiple of 4: then the machine has no next state.
-abbrev pub aligned : ℕ → State → Option State
-aligned a next = cond (eqb (a % 4) 0) (some next) none
+abbrev pub checkAligned : ℕ → State → Option State
+checkAligned a next = cond (eqb (a % 4) 0) (some next) none
 
--- The address that control goes to behind an instruction that does not jump: the next word, or from a delay slot the jump's target.
+-- The address that control goes to after an instruction that does not jump: the next word, or from a delay slot the jump's target.
 abbrev pub follows : ℕ → Option ℕ → ℕ
-follows pc none = after pc
+follows pc none = nextAddress pc
 follows pc (some a) = a
 
 -- The state there, with these registers and this memory.
-abbrev pub onward : State → (ℕ → ℕ) → (ℕ → ℕ) → (ℕ → ℕ) → State
-onward s g f m = record { reg = g; freg = f; mem = m; pc = follows (s .pc) (s .target); target = none }
+abbrev pub proceed : State → (ℕ → ℕ) → (ℕ → ℕ) → (ℕ → ℕ) → State
+proceed s g f m = record { reg = g; freg = f; mem = m; pc = follows (s .pc) (s .target); target = none }
 
--- JR takes its target from GPR[rs]; control goes there behind the delay slot. A jump that itself stands in a delay slot is
+-- JR takes its target from GPR[rs]; control goes there after the delay slot. A jump that itself stands in a delay slot is
 -- unpredictable, so the machine has no next state there.
 abbrev pub jump : State → Option ℕ → ℕ → Option State
-jump s none a = some (record { reg = s .reg; freg = s .freg; mem = s .mem; pc = after (s .pc); target = some a })
+jump s none a = some (record { reg = s .reg; freg = s .freg; mem = s .mem; pc = nextAddress (s .pc); target = some a })
 jump s (some b) a = none
 
 -- Each instruction: ADDIU writes its sum to rt; LW and LWC1 load rt from the word at their sum, SW and SWC1 store it there.
 abbrev pub execute : Instruction → State → Option State
-execute nop s = some (onward s (s .reg) (s .freg) (s .mem))
+execute nop s = some (proceed s (s .reg) (s .freg) (s .mem))
 execute (jr r) s = jump s (s .target) (read (s .reg) r)
-execute (addiu t b i) s = some (onward s (write (s .reg) t (sum (s .reg) b i)) (s .freg) (s .mem))
-execute (lw t b i) s = let a = sum (s .reg) b i in aligned a (onward s (write (s .reg) t (s .mem a)) (s .freg) (s .mem))
-execute (sw t b i) s = let a = sum (s .reg) b i in aligned a (onward s (s .reg) (s .freg) (upd (s .mem) a (read (s .reg) t)))
-execute (lwc1 t b i) s = let a = sum (s .reg) b i in aligned a (onward s (s .reg) (upd (s .freg) t (s .mem a)) (s .mem))
-execute (swc1 t b i) s = let a = sum (s .reg) b i in aligned a (onward s (s .reg) (s .freg) (upd (s .mem) a (s .freg t)))
+execute (addiu t b i) s = some (proceed s (write (s .reg) t (sum (s .reg) b i)) (s .freg) (s .mem))
+execute (lw t b i) s = let a = sum (s .reg) b i in checkAligned a (proceed s (write (s .reg) t (s .mem a)) (s .freg) (s .mem))
+execute (sw t b i) s = let a = sum (s .reg) b i in checkAligned a (proceed s (s .reg) (s .freg) (upd (s .mem) a (read (s .reg) t)))
+execute (lwc1 t b i) s = let a = sum (s .reg) b i in checkAligned a (proceed s (s .reg) (upd (s .freg) t (s .mem a)) (s .mem))
+execute (swc1 t b i) s = let a = sum (s .reg) b i in checkAligned a (proceed s (s .reg) (s .freg) (upd (s .mem) a (s .freg t)))
 execute other s = none
 
 -- One instruction; a fetch from an address that is no multiple of 4 is an address error.
@@ -123,24 +123,24 @@ unfoldable pub step : (ℕ → ℕ) → State → Option State
 step code s = cond (eqb (s .pc % 4) 0) (execute (decode (code (s .pc))) s) none
 
 -- Where there was an error there is nothing more.
-abbrev pub andThen : Option State → (State → Option State) → Option State
-andThen (some s) go = go s
-andThen none go = none
+abbrev pub continueWith : Option State → (State → Option State) → Option State
+continueWith (some s) go = go s
+continueWith none go = none
 
 -- n instructions.
 unfoldable pub run : ℕ → (ℕ → ℕ) → State → Option State
 run zero code s = some s
-run (suc n) code s = andThen (step code s) (run n code)
+run (suc n) code s = continueWith (step code s) (run n code)
 
 -- The address n words on.
-abbrev pub behind : ℕ → ℕ → ℕ
-behind zero a = a
-behind (suc n) a = behind n (after a)
+abbrev pub laterAddress : ℕ → ℕ → ℕ
+laterAddress zero a = a
+laterAddress (suc n) a = laterAddress n (nextAddress a)
 
 -- These words lie in the code, from address a on.
 abbrev pub Holds : (ℕ → ℕ) → ℕ → List ℕ → Type 0
 Holds code a [] = Unit {0}
-Holds code a (w ∷ ws) = (code a ≡ w) × Holds code (after a) ws
+Holds code a (w ∷ ws) = (code a ≡ w) × Holds code (nextAddress a) ws
 
 -- As many instructions as there are words run without an error, and leave a state of which this holds.
 pub record Runs (code : ℕ → ℕ) (ws : List ℕ) (s : State) (Then : State → Type 0) : Type 0 where

@@ -3,17 +3,16 @@
 -- Assumes nothing.
 use mathlib.Core.List.{List, [], _∷_, _++_, map}
 use mathlib.Core.Bool.{Bool, true, false, _&&_}
-use Prim.Native.Nat.{ℕ, _+_, _-_}
+use Prim.Native.Nat.{ℕ, _+_}
 use lib.Dec.{T}
 use lib.ListN.{length, replicate}
-use Rattle.words.specs.Words.{bytesOf, same}
+use Rattle.words.specs.Words.{bytesOf, bytesOfWords, same}
 use Rattle.device.specs.declared.Device.{Device}
 use Rattle.device.specs.declared.Device.the-variants.{Fpu, NoFpu}
-use Rattle.carried.specs.Image as C
+use Rattle.answers.specs.Outcomes.{Outcome}
+use Rattle.answers.proofs.Cases.{came}
 use Rattle.carried.specs.Image.{Placed}
-use Rattle.carried.specs.Convention.{Plan, bad, good, plan}
-use Rattle.answers.specs.declared.Answer.{Answer}
-use Rattle.answers.specs.Answers.{writeInto, readInto, answerOf, bufferOf}
+use Rattle.carried.specs.Convention.{Plan, stopped, complete, plan, writeInto, readInto}
 use Rattle.o32.specs.declared.State.{State}
 use Rattle.o32.specs.O32.{O32}
 
@@ -23,29 +22,16 @@ pub data Call : Type 0 where
   read : Device → List ℕ → List ℕ → Call
 
 -- What a call answers with so many bytes lent.
-abbrev pub into : Call → ℕ → C.Answer
-into (write d list) room = writeInto (O32 d) list room
-into (read d sig img) room = readInto (O32 d) sig img room
+abbrev pub outcomeOf : Call → ℕ → Outcome
+outcomeOf (write d list) room = writeInto (O32 d) list room
+outcomeOf (read d sig img) room = readInto (O32 d) sig img room
 
 -- A case: a call and the bytes lent, and what is to come of it: refusal, place, argument, and the bytes written.
 pub data Case : Type 0 where
   case : Call → ℕ → ℕ → ℕ → ℕ → List ℕ → Case
 
--- A lent buffer before the call. No case writes this byte.
-abbrev pub lent : ℕ → List ℕ
-lent n = replicate n 0xC5
-
-abbrev pub numbersOf : Answer → List ℕ
-numbersOf a = a .refusal ∷ a .place ∷ a .argument ∷ a .length ∷ []
-
--- The four numbers of the answer, and what stands in the buffer: the bytes written, and behind them what was there.
-abbrev pub came : C.Answer → ℕ → ℕ → ℕ → ℕ → List ℕ → Bool
-came a room refusal place argument bytes =
-    same (numbersOf (answerOf a)) (refusal ∷ place ∷ argument ∷ length bytes ∷ [])
-    && same (bufferOf a (lent room)) (bytes ++ lent (room - length bytes))
-
 abbrev pub holds : Case → Bool
-holds (case call room refusal place argument bytes) = came (into call room) room refusal place argument bytes
+holds (case call room refusal place argument bytes) = came (outcomeOf call room) room refusal place argument bytes
 
 abbrev pub all : List Case → Bool
 all [] = true
@@ -53,17 +39,13 @@ all (c ∷ cs) = holds c && all cs
 
 -- ---- how the tables are written
 
-abbrev wordBytes : List ℕ → List ℕ
-wordBytes [] = []
-wordBytes (w ∷ ws) = bytesOf 4 w ++ wordBytes ws
-
 -- these bytes are written, into a buffer that is five longer
 abbrev gives : Call → List ℕ → Case
 gives call bytes = case call (length bytes + 5) 0 0 0 bytes
 
 -- an image by words, on the device with a floating-point unit: $4 to $7, $f12 to $f15, the area
 abbrev image : List ℕ → List ℕ → List ℕ → List ℕ → Case
-image list general floating area = gives (write Fpu list) (wordBytes (general ++ floating ++ area))
+image list general floating area = gives (write Fpu list) (bytesOfWords (general ++ floating ++ area))
 
 -- refused, with twelve bytes lent, which is more than the lists have that are refused 8
 abbrev refuses : Call → ℕ → ℕ → ℕ → Case
@@ -133,11 +115,11 @@ benchTable =
     -- n = 9, then 45 with 01..06
     ∷ image (n 9 ++ (0x45 ∷ 1 ∷ 2 ∷ 3 ∷ 4 ∷ 5 ∷ 6 ∷ [])) (9 ∷ 0x01020304 ∷ 0x05060000 ∷ 0 ∷ []) none none
     -- n, then 53 (20 bytes)
-    ∷ image (n 0x11121314 ++ (0x53 ∷ wordBytes (0x51525354 ∷ 0x61626364 ∷ 0x71727374 ∷ 0x81828384 ∷ 0x91929394 ∷ [])))
+    ∷ image (n 0x11121314 ++ (0x53 ∷ bytesOfWords (0x51525354 ∷ 0x61626364 ∷ 0x71727374 ∷ 0x81828384 ∷ 0x91929394 ∷ [])))
     (0x11121314 ∷ 0x51525354 ∷ 0x61626364 ∷ 0x71727374 ∷ []) none (none ++ (0x81828384 ∷ 0x91929394 ∷ []))
     -- without a floating-point unit: d,s,d
     ∷ gives (write NoFpu (d 0xD1D2D3D4D5D6D7D8 ++ s 0xA1A2A3A4 ++ d 0xE1E2E3E4E5E6E7E8))
-    (wordBytes ((0xD1D2D3D4 ∷ 0xD5D6D7D8 ∷ 0xA1A2A3A4 ∷ 0 ∷ []) ++ none ++ none ++ (0xE1E2E3E4 ∷ 0xE5E6E7E8 ∷ [])))
+    (bytesOfWords ((0xD1D2D3D4 ∷ 0xD5D6D7D8 ∷ 0xA1A2A3A4 ∷ 0 ∷ []) ++ none ++ none ++ (0xE1E2E3E4 ∷ 0xE5E6E7E8 ∷ [])))
     ∷ []
 
 pub bench-cases : T (all benchTable)
@@ -158,13 +140,13 @@ edgeTable =
     ∷ refuses (list (structures1024 ++ cut)) 4 1026 3
     ∷ refuses (list cut) 4 0 1
     ∷ refuses (list marker) 2 0 0
-    -- signature 01 with `$4` = 00000080, the same with a byte behind the image, and with `$4` = FFFFFF80, which is read
-    ∷ refuses (read Fpu (0x01 ∷ []) (wordBytes (0x80 ∷ replicate 11 0))) 8 0 1
-    ∷ refuses (read Fpu (0x01 ∷ []) (wordBytes (0x80 ∷ replicate 11 0) ++ (0 ∷ []))) 6 0 0
-    ∷ gives (read Fpu (0x01 ∷ []) (wordBytes (0xFFFFFF80 ∷ replicate 11 0))) (0x01 ∷ 0x80 ∷ [])
+    -- signature 01 with `$4` = 00000080, the same with a byte after the image, and with `$4` = FFFFFF80, which is read
+    ∷ refuses (read Fpu (0x01 ∷ []) (bytesOfWords (0x80 ∷ replicate 11 0))) 8 0 1
+    ∷ refuses (read Fpu (0x01 ∷ []) (bytesOfWords (0x80 ∷ replicate 11 0) ++ (0 ∷ []))) 6 0 0
+    ∷ gives (read Fpu (0x01 ∷ []) (bytesOfWords (0xFFFFFF80 ∷ replicate 11 0))) (0x01 ∷ 0x80 ∷ [])
     -- one byte too little lent: for the image, and for the list, where it would be refused 8
     ∷ case (list []) 47 7 0 0 []
-    ∷ case (read Fpu (0x01 ∷ []) (wordBytes (0x80 ∷ replicate 11 0))) 1 7 0 0 []
+    ∷ case (read Fpu (0x01 ∷ []) (bytesOfWords (0x80 ∷ replicate 11 0))) 1 7 0 0 []
     -- 32 words are accepted, and two FF structures, which end at 1,024: their signature comes to refusal 6
     ∷ image words32 (replicate 4 0x05050505) none (none ++ replicate 28 0x05050505)
     ∷ refuses (signature (0xFF ∷ 0xFF ∷ [])) 6 0 0
@@ -173,7 +155,7 @@ edgeTable =
 pub edges : T (all edgeTable)
 edges = tt
 
--- ---- request (iv) of document 02: the argument's number behind other arguments, and behind a marker, which counts for the
+-- ---- request (iv) of document 02: the argument's number after other arguments, and after a marker, which counts for the
 -- place and not for the number
 
 abbrev pub numberTable : List Case
@@ -184,15 +166,15 @@ numberTable =
     ∷ refuses (signature (replicate 32 0x05 ++ (0x0B ∷ []))) 2 32 33
     -- a return pointer counts
     ∷ refuses (list (pointer 1 ++ cut)) 4 5 2
-    -- a second marker, a marker behind a return pointer alone, an unknown kind: none
+    -- a second marker, a marker after a return pointer alone, an unknown kind: none
     ∷ refuses (list (n 1 ++ marker ++ marker)) 2 6 0
     ∷ refuses (list (pointer 1 ++ marker)) 2 5 0
     ∷ refuses (list (n 1 ++ marker ++ (0x09 ∷ []))) 1 6 0
-    -- a body cut off, and an end beyond 1,024, behind a marker
+    -- a body cut off, and an end beyond 1,024, after a marker
     ∷ refuses (list (n 1 ++ marker ++ cut)) 4 6 2
     ∷ refuses (signature (0xFF ∷ 0xFF ∷ 0x0A ∷ 0x05 ∷ [])) 5 3 3
     -- no proper promotion, likewise
-    ∷ refuses (read Fpu (0x05 ∷ 0x0A ∷ 0x01 ∷ []) (wordBytes (0 ∷ 0x80 ∷ replicate 10 0))) 8 2 2
+    ∷ refuses (read Fpu (0x05 ∷ 0x0A ∷ 0x01 ∷ []) (bytesOfWords (0 ∷ 0x80 ∷ replicate 10 0))) 8 2 2
     ∷ []
 
 pub numbers : T (all numberTable)
@@ -200,8 +182,8 @@ numbers = tt
 
 -- The numbers of the records that are taken, of which no answer speaks.
 abbrev pub reports : Plan State → List ℕ → Bool
-reports (bad r at k) ns = false
-reports (good L st) ns = same (map (λ (s : Placed). s .argument) L) ns
+reports (stopped r at k) ns = false
+reports (complete L st) ns = same (map (λ (s : Placed). s .argument) L) ns
 
 pub taken-numbers : T (reports (plan (O32 Fpu) false (0x0B ∷ 0x05 ∷ 0x0A ∷ 0x05 ∷ [])) (1 ∷ 2 ∷ 0 ∷ 3 ∷ []))
 taken-numbers = tt

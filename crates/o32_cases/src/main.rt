@@ -10,8 +10,8 @@
 //     show LENGTH, BYTES              how an answer of LENGTH bytes is shown, in a buffer that starts with BYTES
 //
 // ROOM and LENGTH are decimal numbers, at most 4,096. LIST, SIGNATURE, IMAGE and BYTES are at most 4,096 bytes, each a pair of hex
-// digits, with spaces between them or none. Behind a pair, *N makes N equal bytes of it, and +N makes N bytes that count up from it.
-// Of the words write, read, print and show the first letter decides, behind an n the next one. A line that has another form is
+// digits, with spaces between them or none. After a pair, *N makes N equal bytes of it, and +N makes N bytes that count up from it.
+// Of the words write, read, print and show the first letter decides, after an n the next one. A line that has another form is
 // answered "malformed".
 // Of the text the first 131,072 bytes are read.
 //
@@ -19,43 +19,40 @@
 // the buffer is kept.
 ghost use Prim.Native.Nat.{_≤_};
 ghost use lib.ListN.{length};
-use answers::Answer;
 use device::Device;
 use libc::STDIN_FILENO;
 use libc::STDOUT_FILENO;
 
-// A text to standard output. Of what is printed the language has nothing to promise.
-fn print(text: &[u8]) {
-    io::write_all(STDOUT_FILENO, text);
-}
-
 // The answer to a line that has another form.
 fn malformed() {
-    print(b"malformed\n");
+    io::write_all(STDOUT_FILENO, b"malformed\n");
 }
 
-fn show(answer: Answer, out: &[u8; 4096]) {
-    let mut text = [0u8; 16504];
-    let n = case_output::answer_text(answer, out, &mut text);
-    print(&text[..n]);
-}
-
-// The writer, of the list behind a place of a line.
-fn write(device: Device, room: usize, line: &[u8], from: usize)
+// The writer, of the list from a place of a line on.
+fn run_write(device: Device, room: usize, line: &[u8], from: usize)
     requires { ⌜ room ≤ 4096 ⌝ }
 {
     let mut list = io::buffer();
-    let n = case_input::bytes(line, from, line.len(), &mut list);
+    let n = case_input::put_field(line, from, line.len(), &mut list);
     if n > 4096 {
         return malformed();
     }
-    let mut out = case_output::fresh();
+    let mut out = case_output::fresh_buffer();
     let answer = o32_image::write(device, &list[..n], &mut out[..room]);
-    show(answer, &out);
+    case_output::print_answer(answer, &out);
 }
 
-// The reader, of the signature behind a place of a line and the image behind a comma.
-fn read(device: Device, room: usize, line: &[u8], from: usize)
+// The reader, of a signature and an image.
+fn print_reading(device: Device, room: usize, signature: &[u8], image: &[u8])
+    requires { ⌜ room ≤ 4096 ⌝ }
+{
+    let mut out = case_output::fresh_buffer();
+    let answer = o32_image::read(device, signature, image, &mut out[..room]);
+    case_output::print_answer(answer, &out);
+}
+
+// The reader, of the signature from a place of a line to a comma, and the image after it.
+fn run_read(device: Device, room: usize, line: &[u8], from: usize)
     requires { ⌜ room ≤ 4096 ⌝ }
     requires { ⌜ from ≤ length (now line) ⌝ }
 {
@@ -64,45 +61,43 @@ fn read(device: Device, room: usize, line: &[u8], from: usize)
         return malformed();
     }
     let mut signature = io::buffer();
-    let n = case_input::bytes(line, from, comma, &mut signature);
-    let mut image = io::buffer();
-    let m = case_input::bytes(line, comma + 1, line.len(), &mut image);
+    let n = case_input::put_field(line, from, comma, &mut signature);
     if n > 4096 {
         return malformed();
     }
+    let mut image = io::buffer();
+    let m = case_input::put_field(line, comma + 1, line.len(), &mut image);
     if m > 4096 {
         return malformed();
     }
-    let mut out = case_output::fresh();
-    let answer = o32_image::read(device, &signature[..n], &image[..m], &mut out[..room]);
-    show(answer, &out);
+    print_reading(device, room, &signature[..n], &image[..m]);
 }
 
-// What is printed for the list behind the first space of a line.
-fn print_list(line: &[u8]) {
+// What the program `image` prints for the list after the first space of a line.
+fn run_print(line: &[u8]) {
     let space = case_input::find(line, 0, b' ');
     let mut list = io::buffer();
-    let n = case_input::bytes(line, space, line.len(), &mut list);
+    let n = case_input::put_field(line, space, line.len(), &mut list);
     if n > 4096 {
         return malformed();
     }
     let mut out = [0u8; 2376];
     let length = report::report_text(&list[..n], &mut out);
-    print(&out[..length]);
+    io::write_all(STDOUT_FILENO, &out[..length]);
 }
 
-// An answer of so many bytes, in a buffer that starts with the bytes behind a place of a line: where more than these are changed, the
-// answer's last line says so.
-fn show_bytes(length: usize, line: &[u8], from: usize) {
-    let mut out = case_output::fresh();
-    let n = case_input::bytes(line, from, line.len(), &mut out);
+// An answer of so many bytes, in a buffer that starts with the bytes from a place of a line on: where more than these are changed,
+// the answer's last line says so.
+fn run_show(length: usize, line: &[u8], from: usize) {
+    let mut out = case_output::fresh_buffer();
+    let n = case_input::put_field(line, from, line.len(), &mut out);
     if n > 4096 {
         return malformed();
     }
-    show(answers::reply(0, 0, 0, length), &out);
+    case_output::print_answer(answers::reply(0, 0, 0, length), &out);
 }
 
-// The letter that decides on a line: the first, or the one behind an n.
+// The letter that decides on a line: the first, or the one after an n.
 fn letter(line: &[u8]) -> u8
     requires { ⌜ 1 ≤ length (now line) ⌝ }
 {
@@ -113,13 +108,16 @@ fn letter(line: &[u8]) -> u8
     line[1]
 }
 
-// The case of a line.
+// The case of a line. A comment is none.
 fn run(line: &[u8])
     requires { ⌜ 1 ≤ length (now line) ⌝ }
 {
+    if line[0] == b'#' {
+        return;
+    }
     let word = letter(line);
     if word == b'p' {
-        return print_list(line);
+        return run_print(line);
     }
     let device = case_input::device_of(line);
     let room = case_input::room(line);
@@ -127,28 +125,27 @@ fn run(line: &[u8])
         return malformed();
     }
     match word {
-        b'r' => read(device, room.value, line, room.end),
-        b's' => show_bytes(room.value, line, room.end),
-        b'w' => write(device, room.value, line, room.end),
+        b'r' => run_read(device, room.value, line, room.end),
+        b's' => run_show(room.value, line, room.end),
+        b'w' => run_write(device, room.value, line, room.end),
         _ => malformed(),
     }
 }
 
-fn print_line(line: &[u8]) {
-    print(line);
-    print(b"\n");
+// Prints each line of a text, and runs its case.
+fn run_lines(text: &[u8]) {
+    let mut at = 0;
+    while at < text.len() {
+        let end = case_output::print_line(text, at);
+        if end > at {
+            run(&text[at..end]);
+        }
+        at = end + 1;
+    }
 }
 
 fn main() {
     let mut text = [0u8; 131072];
     let n = io::read_full(STDIN_FILENO, &mut text);
-    let mut at = 0;
-    while at < n {
-        let end = case_input::find(&text[..n], at, b'\n');
-        print_line(&text[at..end]);
-        if case_input::is_case(&text[at..end]) {
-            run(&text[at..end]);
-        }
-        at = end + 1;
-    }
+    run_lines(&text[..n]);
 }

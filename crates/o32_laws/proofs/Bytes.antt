@@ -2,51 +2,53 @@
 -- Assumes nothing.
 use mathlib.Core.Path.{_≡_, refl, sym, ap, _∙_}
 use mathlib.Core.Logic.{_↔_}
-use mathlib.Core.List.{List, [], _∷_, _++_}
+use mathlib.Core.List.{List, _∷_, _++_}
 use mathlib.Core.Bool.{false}
 use Prim.Native.Nat.{ℕ, _+_, _<_}
 use native.Mathlib.Omega.{arith}
 use lib.ListN.{length, getD}
 use Rattle.device.specs.declared.Device.{Device}
 use Rattle.carried.specs.Image.{Placed, carried}
-use Rattle.carried.specs.Convention.{good, plan}
-use Rattle.carried.specs.Demand.{In, kinds, Carried}
+use Rattle.carried.specs.Convention.{complete, plan}
+use Rattle.places.specs.Places.{In}
+use Rattle.carried.specs.Carried.{kinds, Carried}
 use Rattle.carried.proofs.Carriers.{Among, Carrier, carrier-of, carrier-in, SameByte, carriers-same, kinds-append, length-kinds, OfKind, of-kind}
 use Rattle.o32.specs.declared.State.{State}
-use Rattle.o32.specs.Kinds.{kindOf}
-use Rattle.o32.specs.Offsets.{width, offset}
-use Rattle.o32.specs.O32.{O32, area, argument, start}
-use Rattle.o32_laws.specs.Carrying.{endOf, registerBehind, CarriedAt, KindIn, ArgumentByte, CarriedBy, CarriedByte}
+use Rattle.kinds.specs.Kinds.{kindOf}
+use Rattle.o32_offsets.specs.Offsets.{width, offset, endOf}
+use Rattle.o32.specs.O32.{O32, area, start}
+use Rattle.rules.specs.Rules.{argument}
+use Rattle.o32_laws.specs.Carrying.{registerAfter, CarriedAt, KindIn, ArgumentByte, CarriedBy, CarriedByte}
 use Rattle.o32_laws.proofs.Laws.{O32-carried}
-use Rattle.o32_laws.proofs.Carrying.{reach, placed-behind, carried-at}
+use Rattle.o32_laws.proofs.Carrying.{reach, placed-after, carried-at}
 
-module _ (d : Device) (sig : List ℕ) (L : List Placed) (last : State) (ok : plan (O32 d) false sig ≡ good L last) where
-  the : Carried (O32 d) sig L (32 + area (last .end))
-  the = O32-carried d sig L last ok
+module _ (d : Device) (sig : List ℕ) (L : List Placed) (last : State) (ok : plan (O32 d) false sig ≡ complete L last) where
+  carried-bytes : Carried (O32 d) sig L (32 + area (last .end))
+  carried-bytes = O32-carried d sig L last ok
 
   -- the record of an argument, placed by the kinds before it
   abbrev pub recordOf : KindIn sig → Placed
-  recordOf a = O32 d .placedAt (a .kind) (argument (reach start (a .before)) (kindOf (a .kind)))
-      (record { kind = kindOf (a .kind); offset = offset (kindOf (a .kind)) (endOf 0 (a .before)); register = registerBehind d (a .before) (a .kind) })
+  recordOf a = O32 d .placedAt (a .kind) (argument (reach start (a .before) .prefix) (kindOf (a .kind)))
+      (record { kind = kindOf (a .kind); offset = offset (kindOf (a .kind)) (endOf 0 (a .before)); register = registerAfter d (a .before) (a .kind) })
 
   pub record Of (a : KindIn sig) : Type 0 where
     pub among : Among L
     pub kinds-before : kinds (among .before) ≡ a .before
     pub long : length (among .before) ≡ length (a .before)
-    pub placed-so : among .here ≡ recordOf a
-    pub carried-so : CarriedAt d (a .before) (a .kind) (among .here)
+    pub record-placed : among .here ≡ recordOf a
+    pub carried-as : CarriedAt d (a .before) (a .kind) (among .here)
 
   pub of : (a : KindIn sig) → Of a
   of a =
-      let w : OfKind L (a .before) (a .kind) (a .behind) = of-kind L (a .before) (a .kind) (a .behind) (the .signature ∙ sym (a .here)) in
+      let w : OfKind L (a .before) (a .kind) (a .after) = of-kind L (a .before) (a .kind) (a .after) (carried-bytes .signature ∙ sym (a .here)) in
       let n : length (w .among .before) ≡ length (a .before) = sym (length-kinds (w .among .before)) ∙ ap length (w .kinds-before) in
-      let ok′ : plan (O32 d) false (a .before ++ (a .kind ∷ a .behind)) ≡ good L last = ap (plan (O32 d) false) (a .here) ∙ ok in
+      let ok′ : plan (O32 d) false (a .before ++ (a .kind ∷ a .after)) ≡ complete L last = ap (plan (O32 d) false) (a .here) ∙ ok in
       record {
         among = w .among;
         kinds-before = w .kinds-before;
         long = n;
-        placed-so = placed-behind d (a .before) (a .kind) (a .behind) L last ok′ (w .among .before) (w .among .here) (w .among .behind) (w .among .records) n;
-        carried-so = carried-at d (a .before) (a .kind) (a .behind) L last ok′ (w .among .before) (w .among .here) (w .among .behind) (w .among .records) n;
+        record-placed = placed-after d (a .before) (a .kind) (a .after) L last ok′ (w .among .before) (w .among .here) (w .among .after) (w .among .records) n;
+        carried-as = carried-at d (a .before) (a .kind) (a .after) L last ok′ (w .among .before) (w .among .here) (w .among .after) (w .among .records) n;
       }
 
   -- the argument of a record
@@ -54,18 +56,18 @@ module _ (d : Device) (sig : List ℕ) (L : List Placed) (last : State) (ok : pl
   argument-of w = record {
     before = kinds (w .before);
     kind = w .here .kind;
-    behind = kinds (w .behind);
-    here = sym (kinds-append (w .before) (w .here ∷ w .behind)) ∙ ap kinds (sym (w .records)) ∙ O32-carried d sig L last ok .signature;
+    after = kinds (w .after);
+    here = sym (kinds-append (w .before) (w .here ∷ w .after)) ∙ ap kinds (sym (w .records)) ∙ O32-carried d sig L last ok .signature;
   }
 
-  pub among-so : (w : Among L) → w .here ≡ recordOf (argument-of w)
-  among-so w =
-      placed-behind d (kinds (w .before)) (w .here .kind) (kinds (w .behind)) L last (ap (plan (O32 d) false) (argument-of w .here) ∙ ok) (w .before) (w .here) (w .behind) (w .records)
+  pub in-carriers : (w : Among L) → w .here ≡ recordOf (argument-of w)
+  in-carriers w =
+      placed-after d (kinds (w .before)) (w .here .kind) (kinds (w .after)) L last (ap (plan (O32 d) false) (argument-of w .here) ∙ ok) (w .before) (w .here) (w .after) (w .records)
       (sym (length-kinds (w .before)))
 
   among-as : (w : Among L) → CarriedAt d (kinds (w .before)) (w .here .kind) (w .here)
   among-as w =
-      carried-at d (kinds (w .before)) (w .here .kind) (kinds (w .behind)) L last (ap (plan (O32 d) false) (argument-of w .here) ∙ ok) (w .before) (w .here) (w .behind) (w .records)
+      carried-at d (kinds (w .before)) (w .here .kind) (kinds (w .after)) L last (ap (plan (O32 d) false) (argument-of w .here) ∙ ok) (w .before) (w .here) (w .after) (w .records)
       (sym (length-kinds (w .before)))
 
   -- the record that carries an argument's byte
@@ -74,7 +76,7 @@ module _ (d : Device) (sig : List ℕ) (L : List Placed) (last : State) (ok : pl
       let w : Of (b .argument) = of (b .argument) in
       record {
         among = w .among;
-        byte = record { index = b .index; inside = omega (arith, w .carried-so .long, b .inside); at = w .carried-so .bytes (b .index) p (b .inside) .1 h };
+        byte = record { index = b .index; inside = omega (arith, w .carried-as .long, b .inside); at = w .carried-as .bytes (b .index) p (b .inside) .1 h };
       }
 
   pub carried-exactly : (p : ℕ) → CarriedByte d sig p ↔ In p (carried L)
@@ -94,8 +96,8 @@ module _ (d : Device) (sig : List ℕ) (L : List Placed) (last : State) (ok : pl
   one-byte b =
       let w : Of (b .argument) = of (b .argument) in (
         getD (w .among .here .carriers) (b .index) 0,
-        w .carried-so .bytes (b .index) _ (b .inside) .0 refl,
-        λ q h. sym (w .carried-so .bytes (b .index) q (b .inside) .1 h),
+        w .carried-as .bytes (b .index) _ (b .inside) .0 refl,
+        λ q h. sym (w .carried-as .bytes (b .index) q (b .inside) .1 h),
       )
 
   -- no two share one,
@@ -104,9 +106,9 @@ module _ (d : Device) (sig : List ℕ) (L : List Placed) (last : State) (ok : pl
   none-shared b c p h g =
       let v : Carrier L p = carrier-at b p h in
       let w : Carrier L p = carrier-at c p g in
-      let s : SameByte (v .among .before) (w .among .before) (b .index) (c .index) = carriers-same L (the .one-each .distinct) p v w in
+      let s : SameByte (v .among .before) (w .among .before) (b .index) (c .index) = carriers-same L (carried-bytes .one-each .distinct) p v w in
       (sym (of (b .argument) .long) ∙ s .record-same ∙ of (c .argument) .long, s .byte-same)
 
   -- and all lie in the image.
   pub bytes-inside : (p : ℕ) → CarriedByte d sig p → p < 32 + area (last .end)
-  bytes-inside p h = the .one-each .inside p (carried-exactly p .0 h)
+  bytes-inside p h = carried-bytes .one-each .inside p (carried-exactly p .0 h)

@@ -11,20 +11,20 @@ use lib.ListN.{length, getD, take, drop, replicate, length-append}
 use lib.Seq.{take-at, drop-at, getD-append-add}
 use Rattle.words.specs.Words.{Extension, promote, body}
 use Rattle.device.specs.declared.Device.{Device}
-use Rattle.carried.specs.Image as C
-use Rattle.carried.specs.Image.{Placed, gather, image, reading, listLength}
-use Rattle.carried.specs.Convention.{good, plan, read}
-use Rattle.carried.specs.Demand.{Sized, AllProper, Carried, RoundTrip}
-use Rattle.carried.specs.Demand as D
-use Rattle.carried.proofs.Readings.{reading-length, length-body, fits-carriers, promotion-of}
+use Rattle.answers.specs.Outcomes.{done}
+use Rattle.carried.specs.Image.{reading, Placed, image, listLength}
+use Rattle.places.specs.Places.{gather}
+use Rattle.carried.specs.Convention.{complete, plan, read, writeInto}
+use Rattle.carried.specs.Carried.{Sized, AllProper, Carried, RoundTrip}
+use Rattle.carried.specs.Carried as D
+use Rattle.carried.proofs.Readings.{done-inj, reading-length, length-body, fits-carriers, promotion-of}
 use Rattle.o32.specs.declared.State.{State}
-use Rattle.o32.specs.Kinds.{kindOf}
-use Rattle.o32.specs.Offsets.{extension}
+use Rattle.kinds.specs.Kinds.{kindOf}
+use Rattle.o32_offsets.specs.Offsets.{extension}
 use Rattle.o32.specs.O32.{O32, area}
-use Rattle.answers.specs.Demand.{functionsOf, output, PastSignature, AcceptedSignature, LentBuffers, Accepts, readingOf}
-use Rattle.answers.proofs.Demand.{Early, Planned, planned-of, accepted-of, reads, is-read, reading-answered, accepted-images, images-as, accepts-exactly}
-use Rattle.answers.proofs.Buffers.{output-done}
-use Rattle.answers.specs.Answers.{writeInto}
+use Rattle.carried.specs.Calls.{functionsOf, output, PastSignature, AcceptedSignature, LentBuffers, Accepts, readingOf}
+use Rattle.carried.proofs.Calls.{Early, Planned, planned-of, accepted-of, reads, is-read, reading-answered, accepted-images, images-as, accepts-exactly}
+use Rattle.carried.proofs.Buffers.{output-done}
 use Rattle.o32_laws.specs.Carrying.{KindIn, ArgumentByte, CarriedBy, imageBytes, listBytes}
 use Rattle.o32_laws.specs.Refusing.{Accepted, Improper}
 use Rattle.o32_laws.specs.Demand.{recordAt, bodyIn, Buffers, CarriedBytes, Demand}
@@ -60,7 +60,7 @@ getD-gather img (p ∷ ps) (suc i) h = getD-gather img ps i (omega arith)
 -- the record at its place in a list: before it n bytes
 record Standing (x : List ℕ) (n k size : ℕ) (b : List ℕ) : Type 0 where
   kind : getD x n 0 ≡ k
-  body-so : take size (drop (n + 1) x) ≡ b
+  body-read : take size (drop (n + 1) x) ≡ b
 
 stands : (xs : List ℕ) (k : ℕ) (b rest x : List ℕ) (n size : ℕ) → x ≡ xs ++ (k ∷ (b ++ rest)) → length xs ≡ n → length b ≡ size → Standing x n k size b
 stands xs k b rest x n size e l h =
@@ -68,13 +68,10 @@ stands xs k b rest x n size e l h =
     let m : length (xs ++ (k ∷ [])) ≡ n + 1 = length-append xs (k ∷ []) ∙ omega arith in
     record {
       kind = rw (e, ← z) (getD-append-add xs (k ∷ (b ++ rest)) 0 0);
-      body-so = ap (λ (y : List ℕ). take size (drop (n + 1) y)) (e ∙ sym (append-assoc xs (k ∷ []) (b ++ rest)))
+      body-read = ap (λ (y : List ℕ). take size (drop (n + 1) y)) (e ∙ sym (append-assoc xs (k ∷ []) (b ++ rest)))
           ∙ ap (take size) (drop-at (xs ++ (k ∷ [])) (b ++ rest) (n + 1) m)
           ∙ take-at b rest size h;
     }
-
-done-inj : {x y : List ℕ} → C.done x ≡ C.done y → x ≡ y
-done-inj e = cc
 
 module _ (d : Device) where
   -- ---- the numbers of the refusals by record
@@ -90,8 +87,8 @@ module _ (d : Device) where
     abbrev L : List Placed
     L = s .placed
 
-    the : Carried (O32 d) sig L (32 + area (s .last .end))
-    the = O32-carried d sig L (s .last) (s .planned)
+    the-theorem : Carried (O32 d) sig L (32 + area (s .last .end))
+    the-theorem = O32-carried d sig L (s .last) (s .planned)
 
     long : listLength L ≡ listBytes sig
     long = list-long d sig L (s .last) (s .planned)
@@ -113,9 +110,9 @@ module _ (d : Device) where
 
       is-reading : x ≡ reading L a
       unfolding lent
-      is-reading = done-inj (sym (reads (O32 d) (O32-laws d) early sig s (lent u) a h) ∙ the .accepts a is-accepted)
+      is-reading = done-inj (sym (reads (O32 d) (O32-laws d) early sig s (lent u) a h) ∙ the-theorem .accepts a is-accepted)
 
-      -- the record of an argument stands behind those before it
+      -- the record of an argument stands after those before it
       module _ (b : KindIn sig) where
         w : Of d sig L (s .last) (s .planned) b
         w = of d sig L (s .last) (s .planned) b
@@ -123,45 +120,45 @@ module _ (d : Device) where
         abbrev here : Placed
         here = w .among .here
 
-        kind-so : here .kind ≡ b .kind
-        kind-so = ap (λ (r : Placed). r .kind) (w .placed-so)
+        kind-read : here .kind ≡ b .kind
+        kind-read = ap (λ (r : Placed). r .kind) (w .record-placed)
 
-        sized : Sized (w .among .before ++ (here ∷ w .among .behind))
-        sized = subst Sized (w .among .records) (the .one-each .sized)
+        sized : Sized (w .among .before ++ (here ∷ w .among .after))
+        sized = subst Sized (w .among .records) (the-theorem .one-each .sized)
 
         before-long : length (reading (w .among .before) a) ≡ recordAt b
         before-long =
-            reading-length (w .among .before) a (sized-left (w .among .before) (here ∷ w .among .behind) sized)
-            ∙ part-long d sig L (s .last) (s .planned) (w .among .before) (here ∷ w .among .behind) (w .among .records)
+            reading-length (w .among .before) a (sized-left (w .among .before) (here ∷ w .among .after) sized)
+            ∙ part-long d sig L (s .last) (s .planned) (w .among .before) (here ∷ w .among .after) (w .among .records)
             ∙ ap listBytes (w .kinds-before)
 
         standing : Standing x (recordAt b) (b .kind) (kindOf (b .kind) .size) (body (here .size) (gather a (here .carriers)))
         standing =
-            stands (reading (w .among .before) a) (b .kind) (body (here .size) (gather a (here .carriers))) (reading (w .among .behind) a) x (recordAt b) (kindOf (b .kind) .size)
+            stands (reading (w .among .before) a) (b .kind) (body (here .size) (gather a (here .carriers))) (reading (w .among .after) a) x (recordAt b) (kindOf (b .kind) .size)
             (is-reading
             ∙ ap (λ (M : List Placed). reading M a) (w .among .records)
-            ∙ reading-append (w .among .before) (here ∷ w .among .behind) a
-            ∙ ap (λ (k : ℕ). reading (w .among .before) a ++ (k ∷ (body (here .size) (gather a (here .carriers)) ++ reading (w .among .behind) a))) kind-so)
+            ∙ reading-append (w .among .before) (here ∷ w .among .after) a
+            ∙ ap (λ (k : ℕ). reading (w .among .before) a ++ (k ∷ (body (here .size) (gather a (here .carriers)) ++ reading (w .among .after) a))) kind-read)
             before-long
-            (length-body here a (sized-at (w .among .before) here (w .among .behind) sized) ∙ w .carried-so .size)
+            (length-body here a (sized-at (w .among .before) here (w .among .after) sized) ∙ w .carried-as .size)
 
         -- and its body, after promotion, is what the image carries for it
         promoted-body : promote (extension (kindOf (b .kind))) (bodyIn b x) ≡ gather a (here .carriers)
         promoted-body =
-            ap (promote (extension (kindOf (b .kind)))) (standing .body-so)
-            ∙ ap (λ (e : Extension). promote e (body (here .size) (gather a (here .carriers)))) (sym (w .carried-so .promotion))
-            ∙ promotion-of here a (proper-at a (w .among .before) here (w .among .behind) (subst (λ (K : List Placed). AllProper K a) (w .among .records) (is-accepted .promoted)))
+            ap (promote (extension (kindOf (b .kind)))) (standing .body-read)
+            ∙ ap (λ (e : Extension). promote e (body (here .size) (gather a (here .carriers)))) (sym (w .carried-as .promotion))
+            ∙ promotion-of here a (proper-at a (w .among .before) here (w .among .after) (subst (λ (K : List Placed). AllProper K a) (w .among .records) (is-accepted .promoted)))
 
       body-byte : (b : ArgumentByte sig) (p : ℕ) → CarriedBy d b p
           → getD (promote (extension (kindOf (b .argument .kind))) (bodyIn (b .argument) x)) (b .index) 0 ≡ getD a p 0
       body-byte b p c =
           ap (λ (y : List ℕ). getD y (b .index) 0) (promoted-body (b .argument))
-          ∙ getD-gather a (here (b .argument) .carriers) (b .index) (omega (arith, w (b .argument) .carried-so .long, b .inside))
-          ∙ ap (λ (q : ℕ). getD a q 0) (w (b .argument) .carried-so .bytes (b .index) p (b .inside) .1 c)
+          ∙ getD-gather a (here (b .argument) .carriers) (b .index) (omega (arith, w (b .argument) .carried-as .long, b .inside))
+          ∙ ap (λ (q : ℕ). getD a q 0) (w (b .argument) .carried-as .bytes (b .index) p (b .inside) .1 c)
 
-    reading-answered-so : (u : Buffers sig) (a : List ℕ) → Accepts (functionsOf (O32 d)) sig u a → functionsOf (O32 d) .read sig a (u .list) .length ≡ listBytes sig
+    length-answered : (u : Buffers sig) (a : List ℕ) → Accepts (functionsOf (O32 d)) sig u a → functionsOf (O32 d) .read sig a (u .list) .length ≡ listBytes sig
     unfolding lent
-    reading-answered-so u a h = reading-answered (O32 d) (O32-laws d) early sig s (lent u) a h ∙ long
+    length-answered u a h = reading-answered (O32 d) (O32-laws d) early sig s (lent u) a h ∙ long
 
     accepted-by : (u : Buffers sig) (a : List ℕ) → Accepts (functionsOf (O32 d)) sig u a ↔ ((length a ≡ imageBytes sig) × ((b : KindIn sig) → Improper b a → ⊥))
     unfolding lent
@@ -178,12 +175,12 @@ module _ (d : Device) where
       inside = λ p h. omega (arith, whole, bytes-inside d sig L (s .last) (s .planned) p h);
       each-byte = each-byte d sig L (s .last) (s .planned);
       lengths = (
-        omega (arith, long, reading-length L [] (the .one-each .sized), reading-long d sig [] L (s .last) (s .planned)),
+        omega (arith, long, reading-length L [] (the-theorem .one-each .sized), reading-long d sig [] L (s .last) (s .planned)),
         omega arith,
         omega (arith, whole, plan-bound d false sig L (s .last) (s .planned) .fits),
       );
       accepted-exactly = accepted-by;
-      reading-length = λ u a h. (reading-answered-so u a h, ap length (is-reading u a h) ∙ reading-length L a (the .one-each .sized) ∙ long);
+      reading-length = λ u a h. (length-answered u a h, ap length (is-reading u a h) ∙ reading-length L a (the-theorem .one-each .sized) ∙ long);
       reading-kinds = λ u a h b. standing u a h b .kind;
       reading-bodies = body-byte;
       images = images-as long whole (carried-exactly d sig L (s .last) (s .planned)) (accepted-images (O32 d) (O32-laws d) early sig s);
@@ -195,7 +192,7 @@ module _ (d : Device) where
   one-answer-decides sig img out h = accepted-of (O32 d) (O32-laws d) early sig (planned-of (O32 d) (O32-laws d) early sig img out h)
 
   -- a list that the writer accepts, and its image
-  given : (list out : List ℕ) (L : List Placed) (last : State) → plan (O32 d) true list ≡ good L last → functionsOf (O32 d) .write list out .refusal ≡ 0
+  given : (list out : List ℕ) (L : List Placed) (last : State) → plan (O32 d) true list ≡ complete L last → functionsOf (O32 d) .write list out .refusal ≡ 0
       → output (functionsOf (O32 d) .write list out) ≡ image (32 + area (last .end)) L list
   given list out L last e h = go (ltb (length out) (length (image (32 + area (last .end)) L list))) refl
     where
@@ -212,7 +209,7 @@ module _ (d : Device) where
       let a : PlannedAs d true list ks = accepted-planned d true list ks v in
       let t : RoundTrip (O32 d) list (a .placed) (a .last) = O32-round-trip d list (a .placed) (a .last) (a .planned) in
       let s : Planned (O32 d) (O32-laws d) early ks = record { placed = a .placed; last = a .last; planned = ap (plan (O32 d) false) (sym (a .kinds-are)) ∙ t .signature } in
-      let r : read (O32 d) ks (output (functionsOf (O32 d) .write list out)) ≡ C.done list =
+      let r : read (O32 d) ks (output (functionsOf (O32 d) .write list out)) ≡ done list =
       ap₂ (read (O32 d)) (sym (a .kinds-are)) (given list out (a .placed) (a .last) (a .planned) h) ∙ t .reads in (
         accepted-of (O32 d) (O32-laws d) early ks s,
         λ u. is-read (O32 d) (O32-laws d) early ks s (lent ks s u) (output (functionsOf (O32 d) .write list out)) list r,

@@ -11,26 +11,28 @@ use borrow.Author.Tests.{eqb-true}
 use Rattle.words.specs.Words.{zeros, proper}
 use Rattle.words.proofs.Bytes.{proper-whole}
 use Rattle.device.specs.declared.Device.{Device}
-use Rattle.carried.specs.Image.{gather, Placed}
-use Rattle.carried.specs.Convention.{good, plan}
-use Rattle.carried.specs.Demand.{kinds, AllProper}
-use Rattle.carried.proofs.Places.{length-gather}
+use Rattle.places.specs.Places.{gather, run}
+use Rattle.carried.specs.Image.{Placed}
+use Rattle.carried.specs.Convention.{complete, plan}
+use Rattle.carried.specs.Carried.{kinds, AllProper}
+use Rattle.places.proofs.Places.{length-gather}
 use Rattle.carried.proofs.Readings.{isProper}
 use Rattle.carried.proofs.Refusals.{ImproperAt}
 use Rattle.carried.proofs.Splits.{Later, later}
 use Rattle.carried.proofs.Carriers.{Among, length-kinds}
-use Rattle.o32.specs.declared.Class.the-variants.{Signed, Unsigned, Float}
-use Rattle.o32.specs.declared.Kind.{Kind}
+use Rattle.kinds.specs.declared.Class.the-variants.{Signed, Unsigned, Float}
+use Rattle.kinds.specs.declared.Kind.{Kind}
 use Rattle.o32.specs.declared.State.{State}
-use Rattle.o32.specs.Kinds.{kindOf, is, classNumber}
-use Rattle.o32.specs.Offsets.{extension, width, offset}
-use Rattle.o32.specs.O32.{O32, run, carrier}
-use Rattle.o32_laws.specs.Carrying.{endOf, registerBehind, KindIn}
-use Rattle.o32_laws.specs.Refusing.{argumentBehind, Improper, FirstImproper}
-use Rattle.o32_laws.proofs.KindFacts.{unpromoted-width}
+use Rattle.kinds.specs.Kinds.{kindOf, is, classNumber}
+use Rattle.o32_offsets.specs.Offsets.{extension, width, offset, endOf}
+use Rattle.o32.specs.O32.{O32, carrier}
+use Rattle.o32_laws.specs.Carrying.{registerAfter, KindIn}
+use Rattle.o32_laws.specs.Refusing.{argumentAfter, Improper, FirstImproper}
+use Rattle.o32_offsets.proofs.Offsets.{unpromoted-width}
 use Rattle.o32_laws.proofs.Carrying.{unfloated}
-use Rattle.o32_laws.proofs.Bytes.{recordOf, Of, of, argument-of, among-so}
-use Rattle.o32_laws.proofs.Numbering.{number-behind}
+use Rattle.o32_laws.proofs.Bytes.{recordOf, Of, of, argument-of, in-carriers}
+use Rattle.o32_laws.proofs.Numbering.{number-after}
+use Rattle.words.proofs.Impossible.{impossible}
 
 -- ---- all records of a list
 
@@ -43,7 +45,7 @@ all-proper img [] h = tt
 all-proper img (s ∷ L) h = (h [] s L refl, all-proper img L (λ M t N e. h (s ∷ M) t N (ap (λ (K : List Placed). s ∷ K) e)))
 
 apart : {t : Bool} → t ≡ true → t ≡ false → ⊥
-apart e f = let z : _≡_ {A = ℕ} 0 1 = cc in omega arith
+apart e f = impossible (cc)
 
 -- ---- one kind
 
@@ -66,7 +68,7 @@ unextended k e = go (is Signed k) (is Unsigned k) refl refl e
     go false true f g h = cc
     go true b f g h = cc
 
-module _ (d : Device) (sig : List ℕ) (L : List Placed) (last : State) (ok : plan (O32 d) false sig ≡ good L last) (img : List ℕ) where
+module _ (d : Device) (sig : List ℕ) (L : List Placed) (last : State) (ok : plan (O32 d) false sig ≡ complete L last) (img : List ℕ) where
   abbrev word : KindIn sig → List ℕ
   word a = map carrier (run (offset (kindOf (a .kind)) (endOf 0 (a .before))) 4)
 
@@ -74,7 +76,7 @@ module _ (d : Device) (sig : List ℕ) (L : List Placed) (last : State) (ok : pl
   word-test : (a : KindIn sig) → promoted (kindOf (a .kind)) ≡ true
       → isProper (recordOf d sig L last ok a) img ≡ proper (extension (kindOf (a .kind))) (kindOf (a .kind) .size) (gather img (word a))
   word-test a e =
-      let z : registerBehind d (a .before) (a .kind) ≡ 0 = unfloated d (a .before) (a .kind) (no-float (kindOf (a .kind)) e) in
+      let z : registerAfter d (a .before) (a .kind) ≡ 0 = unfloated d (a .before) (a .kind) (no-float (kindOf (a .kind)) e) in
       let w : width (kindOf (a .kind)) ≡ 4 = rw e refl in
       rw (z, w) refl
 
@@ -82,30 +84,30 @@ module _ (d : Device) (sig : List ℕ) (L : List Placed) (last : State) (ok : pl
   other-test a e =
       let s : Placed = recordOf d sig L last ok a in
       let n : length (gather img (s .carriers)) ≡ kindOf (a .kind) .size =
-      length-gather img (s .carriers) ∙ ap (λ (r : Placed). length (r .carriers)) (sym (of d sig L last ok a .placed-so)) ∙ of d sig L last ok a .carried-so .long
+      length-gather img (s .carriers) ∙ ap (λ (r : Placed). length (r .carriers)) (sym (of d sig L last ok a .record-placed)) ∙ of d sig L last ok a .carried-as .long
       ∙ unpromoted-width (kindOf (a .kind)) e in
       rw (unextended (kindOf (a .kind)) e) (proper-whole (kindOf (a .kind) .size) (gather img (s .carriers)) n)
 
-  improper-so : (a : KindIn sig) → Improper a img → isProper (recordOf d sig L last ok a) img ≡ false
-  improper-so a h = word-test a (h .0) ∙ h .1
+  test-improper : (a : KindIn sig) → Improper a img → isProper (recordOf d sig L last ok a) img ≡ false
+  test-improper a h = word-test a (h .0) ∙ h .1
 
-  so-improper : (a : KindIn sig) → isProper (recordOf d sig L last ok a) img ≡ false → Improper a img
-  so-improper a h = go (promoted (kindOf (a .kind))) refl
+  improper-test : (a : KindIn sig) → isProper (recordOf d sig L last ok a) img ≡ false → Improper a img
+  improper-test a h = go (promoted (kindOf (a .kind))) refl
     where
       go : (t : Bool) → promoted (kindOf (a .kind)) ≡ t → Improper a img
       go true e = (e, sym (word-test a e) ∙ h)
-      go false e = let z : _≡_ {A = ℕ} 0 1 = cc (other-test a e) in absurd (omega arith)
+      go false e = impossible (cc (other-test a e))
 
   -- a record is improper where its argument is
   tests-as : (s : Placed) (a : KindIn sig) → s ≡ recordOf d sig L last ok a → isProper s img ≡ isProper (recordOf d sig L last ok a) img
   tests-as s a e = ap (λ (r : Placed). isProper r img) e
 
-  number-as : (s : Placed) (a : KindIn sig) → s ≡ recordOf d sig L last ok a → s .argument ≡ argumentBehind (a .before) (a .kind)
-  number-as s a e = ap (λ (r : Placed). r .argument) e ∙ number-behind (a .before) (a .kind)
+  number-as : (s : Placed) (a : KindIn sig) → s ≡ recordOf d sig L last ok a → s .argument ≡ argumentAfter (a .before) (a .kind)
+  number-as s a e = ap (λ (r : Placed). r .argument) e ∙ number-after (a .before) (a .kind)
 
   -- a record of an argument that is improper, and one that is not
   improper-at : (a : KindIn sig) → Improper a img → isProper (of d sig L last ok a .among .here) img ≡ false
-  improper-at a m = tests-as (of d sig L last ok a .among .here) a (of d sig L last ok a .placed-so) ∙ improper-so a m
+  improper-at a m = tests-as (of d sig L last ok a .among .here) a (of d sig L last ok a .record-placed) ∙ test-improper a m
 
   proper-unless : (here : Among L) → (Improper (argument-of d sig L last ok here) img → ⊥) → isProper (here .here) img ≡ true
   proper-unless here h = go (isProper (here .here) img) refl
@@ -114,16 +116,16 @@ module _ (d : Device) (sig : List ℕ) (L : List Placed) (last : State) (ok : pl
       go true e = e
       go false e =
           let a : KindIn sig = argument-of d sig L last ok here in
-          absurd (h (so-improper a (sym (tests-as (here .here) a (among-so d sig L last ok here)) ∙ e)))
+          absurd (h (improper-test a (sym (tests-as (here .here) a (in-carriers d sig L last ok here)) ∙ e)))
 
   -- all records of an image are proper exactly when no argument is improper,
   pub proper-exactly : AllProper L img ↔ ((a : KindIn sig) → Improper a img → ⊥)
   proper-exactly = (
     (λ h a m.
         let v : Among L = of d sig L last ok a .among in
-        apart (proper-at img (v .before) (v .here) (v .behind) (subst (λ (K : List Placed). AllProper K img) (v .records) h)) (improper-at a m)),
+        apart (proper-at img (v .before) (v .here) (v .after) (subst (λ (K : List Placed). AllProper K img) (v .records) h)) (improper-at a m)),
     λ h. all-proper img L (λ M s N e.
-        let here : Among L = record { before = M; here = s; behind = N; records = e } in
+        let here : Among L = record { before = M; here = s; after = N; records = e } in
         proper-unless here (h (argument-of d sig L last ok here))),
   )
 
@@ -133,18 +135,18 @@ module _ (d : Device) (sig : List ℕ) (L : List Placed) (last : State) (ok : pl
     where
       there : ImproperAt img L place j → FirstImproper sig img place j
       there w =
-          let here : Among L = record { before = w .before; here = w .here; behind = w .behind; records = w .records } in
+          let here : Among L = record { before = w .before; here = w .here; after = w .after; records = w .records } in
           let a : KindIn sig = argument-of d sig L last ok here in
-          let e : w .here ≡ recordOf d sig L last ok a = among-so d sig L last ok here in
+          let e : w .here ≡ recordOf d sig L last ok a = in-carriers d sig L last ok here in
           record {
             argument = a;
             at = w .placed ∙ sym (length-kinds (w .before));
-            improper = so-improper a (sym (tests-as (w .here) a e) ∙ w .improper);
+            improper = improper-test a (sym (tests-as (w .here) a e) ∙ w .improper);
             first = λ b h m.
                 let o : Of d sig L last ok b = of d sig L last ok b in
                 let v : Among L = o .among in
                 let r : Later (v .before) (v .here) (w .before) =
-                later (v .before) (v .here) (v .behind) (w .before) (w .here) (w .behind) (sym (v .records) ∙ w .records) (omega (arith, o .long, w .placed)) in
+                later (v .before) (v .here) (v .after) (w .before) (w .here) (w .after) (sym (v .records) ∙ w .records) (omega (arith, o .long, w .placed)) in
                 apart (proper-at img (v .before) (v .here) (r .between) (subst (λ (K : List Placed). AllProper K img) (r .before) (w .proper-before))) (improper-at b m);
             number = w .number ∙ number-as (w .here) a e;
           }
@@ -156,16 +158,16 @@ module _ (d : Device) (sig : List ℕ) (L : List Placed) (last : State) (ok : pl
           record {
             before = v .before;
             here = v .here;
-            behind = v .behind;
+            after = v .after;
             records = v .records;
             placed = w .at ∙ sym (o .long);
-            number = w .number ∙ sym (number-as (v .here) (w .argument) (o .placed-so));
+            number = w .number ∙ sym (number-as (v .here) (w .argument) (o .record-placed));
             proper-before = all-proper img (v .before) (λ M s N e.
                 let here : Among L = record {
                   before = M;
                   here = s;
-                  behind = N ++ (v .here ∷ v .behind);
-                  records = v .records ∙ ap (λ (K : List Placed). K ++ (v .here ∷ v .behind)) e ∙ append-assoc M (s ∷ N) (v .here ∷ v .behind);
+                  after = N ++ (v .here ∷ v .after);
+                  records = v .records ∙ ap (λ (K : List Placed). K ++ (v .here ∷ v .after)) e ∙ append-assoc M (s ∷ N) (v .here ∷ v .after);
                 } in
                 let n : length (kinds M) < place = omega (arith, w .at, o .long, ap length e, length-append M (s ∷ N), length-kinds M) in
                 proper-unless here (w .first (argument-of d sig L last ok here) n));

@@ -1,83 +1,64 @@
 -- What each step of O32 gives, on every device: the image bytes of a record are new and inside the image. So the carried-bytes
 -- theorem holds of it.
 -- Assumes nothing.
-use mathlib.Core.Path.{_≡_, refl, sym, ap, _∙_, subst}
+use mathlib.Core.Path.{_≡_, refl, sym, _∙_, subst}
 use mathlib.Core.Logic.{_⊎_, inl, inr}
 use mathlib.Core.List.{List, [], _∷_, map}
 use mathlib.Core.Bool.{Bool, true, false, cond, not, _&&_}
 use Prim.Native.Nat.{ℕ, zero, suc, _+_, _-_, _*_, _≤_, _<_}
 use native.Mathlib.Omega.{arith}
-use native.Mathlib.Nat.{div-add-mod', div-mul-le-self, mod-lt}
-use lib.ListN.{length, length-append, length-replicate, length-map}
+use lib.ListN.{length, length-map}
 use lib.Dec.{eqb, ltb}
 use borrow.Author.Tests.{ltb-true, ltb-false, eqb-true}
-use Rattle.words.specs.Words.{up, Extension, zeros, toWord, promote, front}
+use Rattle.words.specs.Words.{up, Extension, zeros, toWord, promote}
 use Rattle.device.specs.declared.Device.{Device}
 use Rattle.device.specs.declared.Device.the-variants.{Fpu, NoFpu}
 use Rattle.carried.specs.Image.{Placed}
-use Rattle.carried.specs.Convention.{Step, refuse, next, good, plan}
-use Rattle.carried.specs.Demand.{In, Distinct, Carried, RoundTrip}
-use Rattle.carried.proofs.Places.{in-cases, distinct-append}
+use Rattle.carried.specs.Convention.{Step, refuse, next, complete, plan}
+use Rattle.places.specs.Places.{In, Distinct, run}
+use Rattle.carried.specs.Carried.{Carried, RoundTrip}
+use Rattle.places.proofs.Places.{in-cases, distinct-append}
 use Rattle.carried.proofs.Walks.{StepLaws, StepLawful, Laws}
 use Rattle.carried.proofs.Theorem.{theorem}
 use Rattle.carried.proofs.RoundTrip.{round-trip}
-use Rattle.o32.specs.declared.Class.{Class}
-use Rattle.o32.specs.declared.Class.the-variants.{Unknown, Marker, Pointer, Signed, Unsigned, Float, Plain}
-use Rattle.o32.specs.declared.Kind.{Kind}
+use Rattle.kinds.specs.declared.Class.{Class}
+use Rattle.kinds.specs.declared.Class.the-variants.{Unknown, Marker, Pointer, Signed, Unsigned, Float, Plain, Structure}
+use Rattle.kinds.specs.declared.Kind.{Kind}
 use Rattle.o32.specs.declared.State.{State}
 use Rattle.o32.specs.declared.Placement.{Placement}
-use Rattle.o32.specs.Kinds.{kindOf}
-use Rattle.o32.specs.Offsets.{ending}
-use Rattle.o32.specs.O32.{floatRegister, run, floatRegisters, registerBytes, floatBytes, carrier, area, misplaced, full, onward, stepped, O32}
-use Rattle.o32_laws.proofs.KindFacts.{Sound, kind-sound}
+use Rattle.kinds.specs.Kinds.{kindOf}
+use Rattle.o32_offsets.specs.Offsets.{ending}
+use Rattle.o32.specs.O32.{floatRegister, floatRegisters, registerBytes, floatBytes, carrier, area, advance, stepped, O32}
+use Rattle.rules.specs.Rules.{misplaced, full}
+use Rattle.kinds.proofs.KindFacts.{Facts, kind-facts}
+use Rattle.words.proofs.Promotion.{extended-length}
+use Rattle.places.proofs.Runs.{length-run, run-at, run-distinct}
+use Rattle.o32_offsets.proofs.Offsets.{up-ge}
 
--- ---- the next multiple
+-- ---- bytes by offset: p carries an offset at or after o
 
-pub up-ge : (a n : ℕ) → 1 ≤ a → n ≤ up a n
-up-ge a n h = omega (arith, div-add-mod' (n + (a - 1)) a, mod-lt (n + (a - 1)) {m = a} h)
+abbrev After : ℕ → ℕ → Type 0
+After o p = ((o ≤ p) × (p < 16)) ⊎ ((32 + o ≤ p) × (48 ≤ p))
 
-pub up-le : (a n : ℕ) → up a n ≤ n + (a - 1)
-up-le a n = div-mul-le-self (n + (a - 1)) a
-
--- ---- runs of image bytes
-
-pub length-run : (n p : ℕ) → length (run p n) ≡ n
-length-run zero p = refl
-length-run (suc n) p = ap suc (length-run n (suc p))
-
-pub run-at : (n q p : ℕ) → In p (run q n) → (q ≤ p) × (p < q + n)
-run-at zero q p m = absurd m
-run-at (suc n) q p (inl e) = omega arith
-run-at (suc n) q p (inr m) = omega (arith, run-at n (suc q) p m)
-
-run-distinct : (n q : ℕ) → Distinct (run q n)
-run-distinct zero q = tt
-run-distinct (suc n) q = ((λ m. omega (arith, run-at n (suc q) q m)), run-distinct n (suc q))
-
--- ---- bytes by offset: p carries an offset at or behind o
-
-abbrev Behind : ℕ → ℕ → Type 0
-Behind o p = ((o ≤ p) × (p < 16)) ⊎ ((32 + o ≤ p) × (48 ≤ p))
-
-behind-mono : (o o′ p : ℕ) → o ≤ o′ → Behind o′ p → Behind o p
-behind-mono o o′ p h (inl x) = inl (omega arith)
-behind-mono o o′ p h (inr x) = inr (omega arith)
+after-mono : (o o′ p : ℕ) → o ≤ o′ → After o′ p → After o p
+after-mono o o′ p h (inl x) = inl (omega arith)
+after-mono o o′ p h (inr x) = inr (omega arith)
 
 -- no byte of a floating register does
-not-floating : (o p : ℕ) → Behind o p → 16 ≤ p → p < 32 → ⊥
+not-floating : (o p : ℕ) → After o p → 16 ≤ p → p < 32 → ⊥
 not-floating o p (inl x) h k = omega arith
 not-floating o p (inr x) h k = omega arith
 
 -- p carries an offset from o on and before e
 record Between (o e p : ℕ) : Type 0 where
-  from : Behind o p
-  before : Behind e p → ⊥
+  from : After o p
+  before : After e p → ⊥
   inside : p < 32 + e
 
 between-mono : (a b c d p : ℕ) → a ≤ b → c ≤ d → Between b c p → Between a d p
 between-mono a b c d p h k t = record {
-  from = behind-mono a b p h (t .from);
-  before = λ l. t .before (behind-mono c d p k l);
+  from = after-mono a b p h (t .from);
+  before = λ l. t .before (after-mono c d p k l);
   inside = omega arith;
 }
 
@@ -157,17 +138,17 @@ length-float f size (inr e) = rw e refl
 -- ---- the bytes that are free: those of later offsets, and the floating registers of this argument and the next
 
 abbrev Unused : ℕ → ℕ → ℕ → Type 0
-Unused end count p = Behind end p ⊎ ((16 + 8 * count ≤ p) × (p < 32))
+Unused end count p = After end p ⊎ ((16 + 8 * count ≤ p) × (p < 32))
 
 abbrev Free : State → ℕ → Type 0
-Free st p = Unused (st .end) (st .count) p
+Free st p = Unused (st .end) (st .prefix .count) p
 
 unused-mono : (e e′ n n′ p : ℕ) → e ≤ e′ → n ≤ n′ → Unused e′ n′ p → Unused e n p
-unused-mono e e′ n n′ p h k (inl x) = inl (behind-mono e e′ p h x)
+unused-mono e e′ n n′ p h k (inl x) = inl (after-mono e e′ p h x)
 unused-mono e e′ n n′ p h k (inr x) = inr (omega arith)
 
 laid-used : (o d e n p : ℕ) → d ≤ e → Between o d p → Unused e n p → ⊥
-laid-used o d e n p h t (inl x) = t .before (behind-mono d e p h x)
+laid-used o d e n p h t (inl x) = t .before (after-mono d e p h x)
 laid-used o d e n p h t (inr x) = not-floating o p (t .from) (omega arith) (omega arith)
 
 float-used : (e n p : ℕ) → n < 2 → (16 + 8 * n ≤ p) × (p < 24 + 8 * n) → Unused e (n + 1) p → ⊥
@@ -180,10 +161,6 @@ long-mono a b h = omega arith
 -- ---- the steps
 
 -- a byte or halfword becomes a word
-word-length : (s : Bool) (n : ℕ) (b : List ℕ) → n ≤ 4 → length b ≡ n → length (promote (toWord s n) b) ≡ 4
-word-length true n b h e = length-append (front (toWord true n) b) b ∙ rw length-replicate (omega arith)
-word-length false n b h e = length-append (front (toWord false n) b) b ∙ rw length-replicate (omega arith)
-
 ends : (o m : ℕ) → o + m ≤ o + up 4 m
 ends o m = omega (arith, up-ge 4 m (omega arith))
 
@@ -194,30 +171,30 @@ and-left false b t = t
 module _ (d : Device) where
   -- an argument by its offset: m bytes from o on
   module _ (st : State) (k : ℕ) {j : ℕ} (n : ℕ) (e : Extension) (o m : ℕ) (st′ : State) where
-    laid : st .end ≤ o → o + m ≤ st′ .end → st .count ≤ st′ .count → ((b : List ℕ) → length b ≡ n → length (promote e b) ≡ m)
+    laid : st .end ≤ o → o + m ≤ st′ .end → st .prefix .count ≤ st′ .prefix .count → ((b : List ℕ) → length b ≡ n → length (promote e b) ≡ m)
         → StepLaws (O32 d) Free st k (record { kind = k; argument = j; size = n; extension = e; carriers = span o m }) st′
     laid h g l z = record {
       kind = refl;
       sized = λ b x. z b x ∙ sym (length-span m o);
       apart = span-distinct m o;
-      free = λ p i. inl (behind-mono (st .end) o p h (span-at m o p i .from));
-      used = λ p i. laid-used o (o + m) (st′ .end) (st′ .count) p g (span-at m o p i);
-      keeps = λ p. unused-mono (st .end) (st′ .end) (st .count) (st′ .count) p (omega arith) l;
+      free = λ p i. inl (after-mono (st .end) o p h (span-at m o p i .from));
+      used = λ p i. laid-used o (o + m) (st′ .end) (st′ .prefix .count) p g (span-at m o p i);
+      keeps = λ p. unused-mono (st .end) (st′ .end) (st .prefix .count) (st′ .prefix .count) p (omega arith) l;
       inside = λ p i. omega (arith, span-at m o p i .inside, up-ge 8 (st′ .end) (omega arith));
       grows = long-mono (st .end) (st′ .end) (omega arith);
     }
 
   -- a float in the register pair f
   module _ (st : State) (k : ℕ) {j : ℕ} (n f : ℕ) (st′ : State) where
-    floated : 12 ≤ f → 4 * (f - 12) ≡ 8 * st .count → st .count < 2 → (n ≡ 4) ⊎ (n ≡ 8) → st .end ≤ st′ .end → st′ .count ≡ st .count + 1
+    floated : 12 ≤ f → 4 * (f - 12) ≡ 8 * st .prefix .count → st .prefix .count < 2 → (n ≡ 4) ⊎ (n ≡ 8) → st .end ≤ st′ .end → st′ .prefix .count ≡ st .prefix .count + 1
         → StepLaws (O32 d) Free st k (record { kind = k; argument = j; size = n; extension = zeros 0; carriers = floatBytes f n }) st′
     floated h q c z g l = record {
       kind = refl;
       sized = λ b x. x ∙ sym (length-float f n z);
       apart = float-distinct f n h z;
       free = λ p i. inr (omega (arith, float-at f n p h z i));
-      used = λ p i. rw l (float-used (st′ .end) (st .count) p c (omega (arith, float-at f n p h z i)));
-      keeps = λ p. unused-mono (st .end) (st′ .end) (st .count) (st′ .count) p g (omega arith);
+      used = λ p i. rw l (float-used (st′ .end) (st .prefix .count) p c (omega (arith, float-at f n p h z i)));
+      keeps = λ p. unused-mono (st .end) (st′ .end) (st .prefix .count) (st′ .prefix .count) p g (omega arith);
       inside = λ p i. omega (arith, float-at f n p h z i);
       grows = long-mono (st .end) (st′ .end) g;
     }
@@ -233,53 +210,54 @@ module _ (d : Device) where
     abbrev of : Class → Kind
     of c = record { size = n; alignment = a; class = c }
 
-    by-offset : {j : ℕ} (e : Extension) (m : ℕ) (st′ : State) → st′ .end ≡ up a (st .end) + up 4 m → st′ .count ≡ st .count + 1 → 1 ≤ a
+    by-offset : {j : ℕ} (e : Extension) (m : ℕ) (st′ : State) → st′ .end ≡ up a (st .end) + up 4 m → st′ .prefix .count ≡ st .prefix .count + 1 → 1 ≤ a
         → ((b : List ℕ) → length b ≡ n → length (promote e b) ≡ m) → StepLaws (O32 d) Free st k (record { kind = k; argument = j; size = n; extension = e; carriers = span (up a (st .end)) m }) st′
     by-offset e m st′ x y h = laid st k n e (up a (st .end)) m st′ (up-ge a (st .end) h) (omega (arith, ends (up a (st .end)) m)) (omega arith)
 
-    grown : Sound (of Float) → st .end ≤ ending (of Float) (st .end)
+    grown : Facts (of Float) → st .end ≤ ending (of Float) (st .end)
     grown s = omega (arith, up-ge a (st .end) (s .aligned refl), ends (up a (st .end)) n)
 
     -- a float with this register of rule 3, or by offset
     abbrev Placing : ℕ → Type 0
-    Placing f = Gives st k (next (st .count + 1) (record { kind = of Float; offset = up a (st .end); register = f }) (onward st (of Float)))
+    Placing f = Gives st k (next (st .prefix .count + 1) (record { kind = of Float; offset = up a (st .end); register = f }) (advance st (of Float)))
 
-    by-register : (t u : Bool) → eqb (st .count) 0 ≡ t → eqb (st .count) 1 && st .floating && not (st .marked) ≡ u → Sound (of Float) → Placing (cond t 12 (cond u 14 0))
+    by-register : (t u : Bool) → eqb (st .prefix .count) 0 ≡ t → eqb (st .prefix .count) 1 && st .floating && not (st .prefix .marked) ≡ u → Facts (of Float) → Placing (cond t 12 (cond u 14 0))
     by-register true u e f s =
-        let z : st .count ≡ 0 = eqb-true (st .count) 0 e in
-        floated st k n 12 (onward st (of Float)) (omega arith) (omega arith) (omega arith) (s .floats refl) (grown s) refl
+        let z : st .prefix .count ≡ 0 = eqb-true (st .prefix .count) 0 e in
+        floated st k n 12 (advance st (of Float)) (omega arith) (omega arith) (omega arith) (s .floats refl) (grown s) refl
     by-register false true e f s =
-        let z : st .count ≡ 1 = eqb-true (st .count) 1 (and-left (eqb (st .count) 1) (st .floating) (and-left (eqb (st .count) 1 && st .floating) (not (st .marked)) f)) in
-        floated st k n 14 (onward st (of Float)) (omega arith) (omega arith) (omega arith) (s .floats refl) (grown s) refl
+        let z : st .prefix .count ≡ 1 = eqb-true (st .prefix .count) 1 (and-left (eqb (st .prefix .count) 1) (st .floating) (and-left (eqb (st .prefix .count) 1 && st .floating) (not (st .prefix .marked)) f)) in
+        floated st k n 14 (advance st (of Float)) (omega arith) (omega arith) (omega arith) (s .floats refl) (grown s) refl
     by-register false false e f s = by-offset (zeros 0) n _ refl refl (s .aligned refl) (λ b x. x)
 
-    by-device : (e : Device) → Sound (of Float) → Placing (floatRegister e st)
-    by-device Fpu s = by-register (eqb (st .count) 0) (eqb (st .count) 1 && st .floating && not (st .marked)) refl refl s
+    by-device : (e : Device) → Facts (of Float) → Placing (floatRegister e st)
+    by-device Fpu s = by-register (eqb (st .prefix .count) 0) (eqb (st .prefix .count) 1 && st .floating && not (st .prefix .marked)) refl refl s
     by-device NoFpu s = by-offset (zeros 0) n _ refl refl (s .aligned refl) (λ b x. x)
 
-    step-gives : (c : Class) → Sound (of c) → Gives st k (stepped d st (of c))
+    step-gives : (c : Class) → Facts (of c) → Gives st k (stepped d st (of c))
     step-gives Unknown s = tt
-    step-gives Marker s = unless st k (misplaced st (of Marker)) 2 _ _
+    step-gives Marker s = unless st k (misplaced (st .prefix) (of Marker)) 2 _ _
         (rw (s .markers refl .0) (laid st k 0 (zeros 0) (st .end) 0 _ (omega arith) (omega arith) (omega arith) (λ b x. x)))
     step-gives Pointer s =
-        unless st k (misplaced st (of Pointer)) 2 _ _ (unless st k (full st (of Pointer)) 3 _ _ (by-offset (zeros 0) n _ refl refl (s .aligned refl) (λ b x. x)))
+        unless st k (misplaced (st .prefix) (of Pointer)) 2 _ _ (unless st k (full (st .prefix) (of Pointer)) 3 _ _ (by-offset (zeros 0) n _ refl refl (s .aligned refl) (λ b x. x)))
     step-gives Signed s =
-        unless st k (full st (of Signed)) 3 _ _ (by-offset (toWord true n) 4 _ refl refl (s .aligned refl) (λ b. word-length true n b (omega (arith, s .promoted refl))))
+        unless st k (full (st .prefix) (of Signed)) 3 _ _ (by-offset (toWord true n) 4 _ refl refl (s .aligned refl) (λ b. extended-length 4 true n b (omega (arith, s .promoted refl))))
     step-gives Unsigned s =
-        unless st k (full st (of Unsigned)) 3 _ _ (by-offset (toWord false n) 4 _ refl refl (s .aligned refl) (λ b. word-length false n b (omega (arith, s .promoted refl))))
-    step-gives Float s = unless st k (full st (of Float)) 3 _ _ (by-device d s)
-    step-gives Plain s = unless st k (full st (of Plain)) 3 _ _ (by-offset (zeros 0) n _ refl refl (s .aligned refl) (λ b x. x))
+        unless st k (full (st .prefix) (of Unsigned)) 3 _ _ (by-offset (toWord false n) 4 _ refl refl (s .aligned refl) (λ b. extended-length 4 false n b (omega (arith, s .promoted refl))))
+    step-gives Float s = unless st k (full (st .prefix) (of Float)) 3 _ _ (by-device d s)
+    step-gives Plain s = unless st k (full (st .prefix) (of Plain)) 3 _ _ (by-offset (zeros 0) n _ refl refl (s .aligned refl) (λ b x. x))
+    step-gives Structure s = unless st k (full (st .prefix) (of Structure)) 3 _ _ (by-offset (zeros 0) n _ refl refl (s .aligned refl) (λ b x. x))
 
   pub O32-laws : Laws (O32 d)
   O32-laws = record {
     Free = Free;
-    steps = λ st k. step-gives st k (kindOf k .size) (kindOf k .alignment) (kindOf k .class) (kind-sound k);
+    steps = λ st k. step-gives st k (kindOf k .size) (kindOf k .alignment) (kindOf k .class) (kind-facts k);
   }
 
   -- The carried-bytes theorem of O32, on every device, at every accepted signature.
-  pub O32-carried : (sig : List ℕ) (L : List Placed) (last : State) → plan (O32 d) false sig ≡ good L last → Carried (O32 d) sig L (32 + area (last .end))
+  pub O32-carried : (sig : List ℕ) (L : List Placed) (last : State) → plan (O32 d) false sig ≡ complete L last → Carried (O32 d) sig L (32 + area (last .end))
   O32-carried sig L last ok = theorem (O32 d) O32-laws sig L last ok
 
   -- And reading what its writer wrote gives the list back, for every accepted list.
-  pub O32-round-trip : (l : List ℕ) (L : List Placed) (last : State) → plan (O32 d) true l ≡ good L last → RoundTrip (O32 d) l L last
+  pub O32-round-trip : (l : List ℕ) (L : List Placed) (last : State) → plan (O32 d) true l ≡ complete L last → RoundTrip (O32 d) l L last
   O32-round-trip l L last ok = round-trip (O32 d) O32-laws l L last ok

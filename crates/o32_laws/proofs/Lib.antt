@@ -1,4 +1,3 @@
-pub mod KindFacts
 pub mod Laws
 pub mod Runs
 pub mod Steps
@@ -11,3 +10,5 @@ pub mod Refusing
 pub mod Improper
 pub mod Refusals
 pub mod Demand
+pub mod Premises
+pub mod Fitting

@@ -14,21 +14,22 @@ use Rattle.words.specs.Words.{up}
 use Rattle.device.specs.declared.Device.{Device}
 use Rattle.device.specs.declared.Device.the-variants.{Fpu, NoFpu}
 use Rattle.carried.specs.Image.{Placed, carried}
-use Rattle.carried.specs.Demand.{In}
-use Rattle.carried.specs.Convention.{good, plan}
-use Rattle.carried.proofs.Places.{in-or-not}
+use Rattle.places.specs.Places.{In}
+use Rattle.carried.specs.Convention.{complete, plan}
+use Rattle.places.proofs.Places.{in-or-not}
 use Rattle.carried.proofs.Splits.{Later, later, Same, same}
 use Rattle.carried.proofs.Walks.{Walk, end, one, walk-of}
-use Rattle.o32.specs.declared.Class.the-variants.{Unknown, Marker, Float}
+use Rattle.kinds.specs.declared.Class.the-variants.{Unknown, Marker, Float}
 use Rattle.o32.specs.declared.State.{State}
-use Rattle.o32.specs.Kinds.{kindOf, is}
-use Rattle.o32.specs.Offsets.{width, offset, ending}
+use Rattle.kinds.specs.Kinds.{kindOf, is}
+use Rattle.o32_offsets.specs.Offsets.{width, offset, ending, endOf}
 use Rattle.o32.specs.O32.{O32, carrier, start}
-use Rattle.o32_laws.specs.Carrying.{endOf, registerBehind, low, high, single, odd, even, KindIn, endBefore, offsetOf, widthOf, ArgumentByte, CarriedBy, CarriedByte}
+use Rattle.o32_laws.specs.Carrying.{registerAfter, low, high, single, odd, even, KindIn, endBefore, offsetOf, widthOf, ArgumentByte, CarriedBy, CarriedByte}
 use Rattle.o32_laws.specs.Nothing.{GivenTo, Empty, fill, hole, bypassed, unused, home, unused-float, EachByte}
-use Rattle.o32_laws.proofs.KindFacts.{kind-sound, float-width}
-use Rattle.o32_laws.proofs.Laws.{O32-laws, up-ge}
-use Rattle.o32_laws.proofs.Steps.{step-says, marker-width, none-up}
+use Rattle.kinds.proofs.KindFacts.{kind-facts}
+use Rattle.o32_offsets.proofs.Offsets.{float-width, up-ge}
+use Rattle.o32_laws.proofs.Laws.{O32-laws}
+use Rattle.o32_laws.proofs.Steps.{step-described, marker-width, none-up}
 use Rattle.o32_laws.proofs.Carrying.{floats-only}
 use Rattle.o32_laws.proofs.Bytes.{carried-exactly}
 
@@ -40,7 +41,7 @@ Known (k ∷ ks) = (is Unknown (kindOf k) ≡ false) × Known ks
 
 pub walk-known : (d : Device) {st last : State} {ks : List ℕ} {L : List Placed} → Walk (O32 d) (O32-laws d) st ks L last → Known ks
 walk-known d end = tt
-walk-known d (one {st = st} {st′ = st′} {k = k} {j = j} {p = p} e f w) = (step-says d st k j p st′ e .known, walk-known d w)
+walk-known d (one {st = st} {st′ = st′} {k = k} {j = j} {p = p} e f w) = (step-described d st k j p st′ e .known, walk-known d w)
 
 known-right : (xs ys : List ℕ) → Known (xs ++ ys) → Known ys
 known-right [] ys h = h
@@ -64,9 +65,9 @@ lies e k h = go (is Marker (kindOf k)) refl
   where
     go : (t : Bool) → is Marker (kindOf k) ≡ t → Lies e k
     go true g =
-        let z : (kindOf k .size ≡ 0) × (kindOf k .alignment ≡ 0) = kind-sound k .markers g in
+        let z : (kindOf k .size ≡ 0) × (kindOf k .alignment ≡ 0) = kind-facts k .markers g in
         marker (marker-width (kindOf k) g (z .0)) (ap (λ (a : ℕ). up a e) (z .1) ∙ none-up e) (rw g refl)
-    go false g = laid (up-ge (kindOf k .alignment) e (kind-sound k .aligned (rw (h, g) refl))) (rw g refl)
+    go false g = laid (up-ge (kindOf k .alignment) e (kind-facts k .aligned (rw (h, g) refl))) (rw g refl)
 
 end-append : (xs ys : List ℕ) (e : ℕ) → endOf e (xs ++ ys) ≡ endOf (endOf e xs) ys
 end-append [] ys e = refl
@@ -81,7 +82,7 @@ end-grows (k ∷ ks) e h = elim (lies e k (h .0)) [
 
 -- ---- floating registers
 
-register-values : (d : Device) (before : List ℕ) (k : ℕ) → 1 ≤ registerBehind d before k → (registerBehind d before k ≡ 12) ⊎ (registerBehind d before k ≡ 14)
+register-values : (d : Device) (before : List ℕ) (k : ℕ) → 1 ≤ registerAfter d before k → (registerAfter d before k ≡ 12) ⊎ (registerAfter d before k ≡ 14)
 register-values NoFpu before k h = absurd (omega arith)
 register-values Fpu [] k h = go (is Float (kindOf k)) h
   where
@@ -97,7 +98,7 @@ register-values Fpu (j ∷ i ∷ js) k h = absurd (omega arith)
 
 -- where a byte is carried: by its offset, or in the word of a floating register that the argument is given
 data Where (d : Device) {sig : List ℕ} (b : ArgumentByte sig) (p : ℕ) : Type 0 where
-  at-offset : (x : ℕ) → registerBehind d (b .argument .before) (b .argument .kind) ≡ 0 → x ≡ offsetOf (b .argument) + b .index → p ≡ carrier x → Where d b p
+  at-offset : (x : ℕ) → registerAfter d (b .argument .before) (b .argument .kind) ≡ 0 → x ≡ offsetOf (b .argument) + b .index → p ≡ carrier x → Where d b p
   in-float : (g : ℕ) → GivenTo d (b .argument) g → (16 + 4 * (g - 12) ≤ p) × (p < 20 + 4 * (g - 12)) → (12 ≤ g) × (g < 16) → Where d b p
 
 carrier-cases : (q : ℕ) → ((q < 16) × (carrier q ≡ q)) ⊎ ((16 ≤ q) × (carrier q ≡ 32 + q))
@@ -147,7 +148,7 @@ module _ (d : Device) (sig : List ℕ) where
   -- the argument whose byte is carried at this offset
   record Own (x : ℕ) : Type 0 where
     argument : KindIn sig
-    unfloated : registerBehind d (argument .before) (argument .kind) ≡ 0
+    unfloated : registerAfter d (argument .before) (argument .kind) ≡ 0
     from : offsetOf argument ≤ x
     before-end : x < offsetOf argument + widthOf argument
 
@@ -164,28 +165,28 @@ module _ (d : Device) (sig : List ℕ) where
   at-carrier x e c = subst (CarriedByte d sig) e c
 
   module _ (known : Known sig) where
-    of-known : (a : KindIn sig) → Known (a .before ++ (a .kind ∷ a .behind))
+    of-known : (a : KindIn sig) → Known (a .before ++ (a .kind ∷ a .after))
     of-known a = subst Known (sym (a .here)) known
 
     abbrev endAfter : KindIn sig → ℕ
     endAfter a = next-end (endBefore a) (a .kind)
 
     argument-lies : (a : KindIn sig) → Lies (endBefore a) (a .kind)
-    argument-lies a = lies (endBefore a) (a .kind) (known-right (a .before) (a .kind ∷ a .behind) (of-known a) .0)
+    argument-lies a = lies (endBefore a) (a .kind) (known-right (a .before) (a .kind ∷ a .after) (of-known a) .0)
 
     -- an earlier argument ends before a later one begins
     ordered : (a b : KindIn sig) → length (a .before) < length (b .before) → endAfter a ≤ endBefore b
     ordered a b h =
-        let w : Later (a .before) (a .kind) (b .before) = later (a .before) (a .kind) (a .behind) (b .before) (b .kind) (b .behind) (a .here ∙ sym (b .here)) h in
+        let w : Later (a .before) (a .kind) (b .before) = later (a .before) (a .kind) (a .after) (b .before) (b .kind) (b .after) (a .here ∙ sym (b .here)) h in
         let e : endBefore b ≡ endOf (endAfter a) (w .between) = ap (endOf 0) (w .before) ∙ end-append (a .before) (a .kind ∷ w .between) 0 in
-        let n : Known (w .between) = known-right (a .before) (a .kind ∷ w .between) (subst Known (w .before) (known-left (b .before) (b .kind ∷ b .behind) (of-known b))) .1 in
+        let n : Known (w .between) = known-right (a .before) (a .kind ∷ w .between) (subst Known (w .before) (known-left (b .before) (b .kind ∷ b .after) (of-known b))) .1 in
         omega (arith, e, end-grows (w .between) (endAfter a) n)
 
     -- and each ends before the end of all
     all-end : (a : KindIn sig) → endAfter a ≤ endOf 0 sig
     all-end a =
-        let e : endOf 0 sig ≡ endOf (endAfter a) (a .behind) = ap (endOf 0) (sym (a .here)) ∙ end-append (a .before) (a .kind ∷ a .behind) 0 in
-        omega (arith, e, end-grows (a .behind) (endAfter a) (known-right (a .before) (a .kind ∷ a .behind) (of-known a) .1))
+        let e : endOf 0 sig ≡ endOf (endAfter a) (a .after) = ap (endOf 0) (sym (a .here)) ∙ end-append (a .before) (a .kind ∷ a .after) 0 in
+        omega (arith, e, end-grows (a .after) (endAfter a) (known-right (a .before) (a .kind ∷ a .after) (of-known a) .1))
 
     -- an argument's own bytes lie between the end of those before and its own end
     own-lies : {x : ℕ} (o : Own x) → (endBefore (o .argument) ≤ x) × (x < endAfter (o .argument))
@@ -196,20 +197,20 @@ module _ (d : Device) (sig : List ℕ) where
 
     -- of the offsets of an argument only its own bytes are carried, and only if it has no floating register
     only : (a : KindIn sig) (x : ℕ) → endBefore a ≤ x → x < endAfter a → CarriedByte d sig (carrier x)
-        → (registerBehind d (a .before) (a .kind) ≡ 0) × (offsetOf a ≤ x) × (x < offsetOf a + widthOf a)
+        → (registerAfter d (a .before) (a .kind) ≡ 0) × (offsetOf a ≤ x) × (x < offsetOf a + widthOf a)
     only a x h g m = go (own x m)
       where
-        go : Own x → (registerBehind d (a .before) (a .kind) ≡ 0) × (offsetOf a ≤ x) × (x < offsetOf a + widthOf a)
+        go : Own x → (registerAfter d (a .before) (a .kind) ≡ 0) × (offsetOf a ≤ x) × (x < offsetOf a + widthOf a)
         go o = orders (ltb (length (a .before)) (length (o .argument .before))) (ltb (length (o .argument .before)) (length (a .before))) refl refl
           where
             orders : (t u : Bool) → ltb (length (a .before)) (length (o .argument .before)) ≡ t → ltb (length (o .argument .before)) (length (a .before)) ≡ u
-                → (registerBehind d (a .before) (a .kind) ≡ 0) × (offsetOf a ≤ x) × (x < offsetOf a + widthOf a)
+                → (registerAfter d (a .before) (a .kind) ≡ 0) × (offsetOf a ≤ x) × (x < offsetOf a + widthOf a)
             orders true u e f = absurd (omega (arith, ordered a (o .argument) (ltb-true (length (a .before)) (length (o .argument .before)) e), own-lies o))
             orders false true e f = absurd (omega (arith, ordered (o .argument) a (ltb-true (length (o .argument .before)) (length (a .before)) f), own-lies o))
             orders false false e f =
                 let n : length (a .before) ≡ length (o .argument .before) =
                 omega (arith, ltb-false (length (a .before)) (length (o .argument .before)) e, ltb-false (length (o .argument .before)) (length (a .before)) f) in
-                let s : Same (a .before) (a .kind) (o .argument .before) (o .argument .kind) = same (a .before) (a .kind) (a .behind) (o .argument .before) (o .argument .kind) (o .argument .behind) (a .here ∙ sym (o .argument .here)) n in
+                let s : Same (a .before) (a .kind) (o .argument .before) (o .argument .kind) = same (a .before) (a .kind) (a .after) (o .argument .before) (o .argument .kind) (o .argument .after) (a .here ∙ sym (o .argument .here)) n in
                 rw (s .before-same, s .here-same) (o .unfloated, o .from, o .before-end)
 
     never-both : (p : ℕ) → Empty d sig p → CarriedByte d sig p → ⊥
@@ -249,11 +250,11 @@ module _ (d : Device) (sig : List ℕ) where
         (around ks (before ++ (k ∷ [])) x (append-assoc before (k ∷ []) ks ∙ e))
       where
         go : (t : Bool) → ltb x (next-end (endOf 0 before) k) ≡ t → (endOf 0 (before ++ (k ∷ [])) ≤ x → x < endOf 0 sig → Around x) → Around x
-        go true f rest = record { argument = record { before = before; kind = k; behind = ks; here = e }; from = h; before-end = ltb-true x (next-end (endOf 0 before) k) f }
+        go true f rest = record { argument = record { before = before; kind = k; after = ks; here = e }; from = h; before-end = ltb-true x (next-end (endOf 0 before) k) f }
         go false f rest = rest (omega (arith, end-append before (k ∷ []) 0, ltb-false x (next-end (endOf 0 before) k) f)) g
 
     -- a byte of an argument by its offset
-    own-byte : (a : KindIn sig) (x : ℕ) → registerBehind d (a .before) (a .kind) ≡ 0 → offsetOf a ≤ x → x < offsetOf a + widthOf a → CarriedByte d sig (carrier x)
+    own-byte : (a : KindIn sig) (x : ℕ) → registerAfter d (a .before) (a .kind) ≡ 0 → offsetOf a ≤ x → x < offsetOf a + widthOf a → CarriedByte d sig (carrier x)
     own-byte a x z h g =
         let n : offsetOf a + (x - offsetOf a) ≡ x = omega arith in
         (record { argument = a; index = x - offsetOf a; inside = omega arith }, elim (carrier-cases x) [ inl y ↦ low z (omega arith) (omega arith) | inr y ↦ high z (omega arith) (omega arith) ])
@@ -261,9 +262,9 @@ module _ (d : Device) (sig : List ℕ) where
     -- a byte of a floating register that an argument is given
     float-byte : (a : KindIn sig) (g p : ℕ) → GivenTo d a g → 16 + 4 * (g - 12) ≤ p → p < 20 + 4 * (g - 12) → CarriedByte d sig p
     float-byte a g p w h l =
-        let f : ℕ = registerBehind d (a .before) (a .kind) in
+        let f : ℕ = registerAfter d (a .before) (a .kind) in
         let n : widthOf a ≡ kindOf (a .kind) .size = float-width (kindOf (a .kind)) (floats-only d (a .before) (a .kind) (w .0)) in
-        elim (kind-sound (a .kind) .floats (floats-only d (a .before) (a .kind) (w .0))) [
+        elim (kind-facts (a .kind) .floats (floats-only d (a .before) (a .kind) (w .0))) [
           | inl z ↦ elim (w .1) [
             | inl e ↦ (record { argument = a; index = p - (16 + 4 * (g - 12)); inside = omega arith }, single (w .0) z (omega arith))
             | inr e ↦ absurd (omega (arith, e .1))
@@ -278,13 +279,13 @@ module _ (d : Device) (sig : List ℕ) where
     in-argument : (p x : ℕ) → p ≡ carrier x → (a : KindIn sig) → endBefore a ≤ x → x < endAfter a → CarriedByte d sig p ⊎ Empty d sig p
     in-argument p x e a h g = go (ltb x (offsetOf a)) (ltb x (offsetOf a + widthOf a)) refl refl
       where
-        by-register : (f : ℕ) → registerBehind d (a .before) (a .kind) ≡ f → offsetOf a ≤ x → x < offsetOf a + widthOf a → CarriedByte d sig p ⊎ Empty d sig p
+        by-register : (f : ℕ) → registerAfter d (a .before) (a .kind) ≡ f → offsetOf a ≤ x → x < offsetOf a + widthOf a → CarriedByte d sig p ⊎ Empty d sig p
         by-register zero z m n = inl (subst (CarriedByte d sig) (sym e) (own-byte a x z m n))
         by-register (suc f) z m n = inr (bypassed a x (omega arith) m n e)
 
         go : (t u : Bool) → ltb x (offsetOf a) ≡ t → ltb x (offsetOf a + widthOf a) ≡ u → CarriedByte d sig p ⊎ Empty d sig p
         go true u i j = inr (hole a x h (ltb-true x (offsetOf a) i) e)
-        go false true i j = by-register (registerBehind d (a .before) (a .kind)) refl (ltb-false x (offsetOf a) i) (ltb-true x (offsetOf a + widthOf a) j)
+        go false true i j = by-register (registerAfter d (a .before) (a .kind)) refl (ltb-false x (offsetOf a) i) (ltb-true x (offsetOf a + widthOf a) j)
         go false false i j = elim (argument-lies a) [
           | marker w z n ↦ absurd (omega (arith, n))
           | laid b n ↦ inr (fill a x (ltb-false x (offsetOf a + widthOf a) j) (omega (arith, n)) e)
@@ -322,7 +323,7 @@ module _ (d : Device) (sig : List ℕ) where
         go false false false e f g = at-an-offset p (p - 32) (high-offset (ltb-false p 48 g))
 
 -- at every accepted signature, on every device
-pub each-byte : (d : Device) (sig : List ℕ) (L : List Placed) (last : State) → plan (O32 d) false sig ≡ good L last → EachByte d sig
+pub each-byte : (d : Device) (sig : List ℕ) (L : List Placed) (last : State) → plan (O32 d) false sig ≡ complete L last → EachByte d sig
 each-byte d sig L last ok =
     let known : Known sig = walk-known d (walk-of (O32 d) (O32-laws d) sig start L last 0 ok) in
     record { either = λ p h. either d sig known p (decided p (in-or-not p (carried L))); never-both = never-both d sig known }

@@ -9,17 +9,16 @@ use native.Mathlib.Omega.{arith}
 use lib.ListN.{length, drop}
 use lib.Seq.{drop-at}
 use Rattle.device.specs.declared.Device.{Device}
-use Rattle.carried.specs.Image as C
+use Rattle.answers.specs.Outcomes.{Outcome, done, refused, answerOf, bufferOf}
 use Rattle.carried.specs.Image.{Placed, listLength}
-use Rattle.carried.specs.Convention.{good, plan}
-use Rattle.carried.specs.Demand.{kinds}
+use Rattle.carried.specs.Convention.{complete, plan, writeInto, readInto}
+use Rattle.carried.specs.Carried.{kinds}
 use Rattle.carried.proofs.Walks.{Walk, walk-of, walk-by-kinds}
 use Rattle.o32.specs.declared.State.{State}
 use Rattle.o32.specs.O32.{O32, area, start}
-use Rattle.answers.specs.Answers.{answerOf, bufferOf, writeInto, readInto}
-use Rattle.answers.specs.Demand.{resultOf, functionsOf}
-use Rattle.answers.proofs.Refusals as A
-use Rattle.answers.proofs.Refusals.{answer-refuses, write-refused, read-refused}
+use Rattle.carried.specs.Calls.{resultOf, functionsOf}
+use Rattle.carried.proofs.CallRefusals as A
+use Rattle.carried.proofs.CallRefusals.{answer-refuses, write-refused, read-refused}
 use Rattle.o32_laws.specs.Carrying.{imageBytes, listBytes}
 use Rattle.o32_laws.specs.Refusing as R
 use Rattle.o32_laws.specs.Refusing.{Accepted, WriterRefuses, ReaderRefuses, KeepsBuffer, Refusals}
@@ -29,9 +28,9 @@ use Rattle.o32_laws.proofs.Improper.{improper-exactly}
 
 -- ---- what a call leaves in its buffer
 
-keeps : (a : C.Answer) → ((r place j : ℕ) → a ≡ C.refused r place j → 1 ≤ r) → (out : List ℕ) → KeepsBuffer out (resultOf (answerOf a) (bufferOf a out))
-keeps (C.refused r at j) numbered out = record { refused = λ h. (refl, refl); accepted = λ e. absurd (omega (arith, numbered r at j refl)) }
-keeps (C.done x) numbered out = record { refused = λ h. absurd (omega arith); accepted = λ e. (refl, refl, drop-at x (drop (length x) out) (length x) refl) }
+keeps : (a : Outcome) → ((r place j : ℕ) → a ≡ refused r place j → 1 ≤ r) → (out : List ℕ) → KeepsBuffer out (resultOf (answerOf a) (bufferOf a out))
+keeps (refused r at j) numbered out = record { refused = λ h. (refl, refl); accepted = λ e. absurd (omega (arith, numbered r at j refl)) }
+keeps (done x) numbered out = record { refused = λ h. absurd (omega arith); accepted = λ e. (refl, refl, drop-at x (drop (length x) out) (length x) refl) }
 
 module _ (d : Device) where
   -- ---- lengths
@@ -40,21 +39,21 @@ module _ (d : Device) where
   walk-image w = ap (λ (e : ℕ). 32 + area e) (end-is d w)
 
   -- of a signature, and of a part of it
-  pub part-long : (sig : List ℕ) (L : List Placed) (last : State) → plan (O32 d) false sig ≡ good L last → (M N : List Placed) → L ≡ M ++ N → listLength M ≡ listBytes (kinds M)
+  pub part-long : (sig : List ℕ) (L : List Placed) (last : State) → plan (O32 d) false sig ≡ complete L last → (M N : List Placed) → L ≡ M ++ N → listLength M ≡ listBytes (kinds M)
   part-long sig L last ok M N e = bodied-list M (bodied-left M N (subst Bodied e (walk-bodied d (walk-of (O32 d) (O32-laws d) sig start L last 0 ok))))
 
-  pub list-long : (sig : List ℕ) (L : List Placed) (last : State) → plan (O32 d) false sig ≡ good L last → listLength L ≡ listBytes sig
+  pub list-long : (sig : List ℕ) (L : List Placed) (last : State) → plan (O32 d) false sig ≡ complete L last → listLength L ≡ listBytes sig
   list-long sig L last ok = part-long sig L last ok L [] (sym (append-nil L)) ∙ ap listBytes (O32-carried d sig L last ok .signature)
 
-  pub image-long : (sig : List ℕ) (L : List Placed) (last : State) → plan (O32 d) false sig ≡ good L last → 32 + area (last .end) ≡ imageBytes sig
+  pub image-long : (sig : List ℕ) (L : List Placed) (last : State) → plan (O32 d) false sig ≡ complete L last → 32 + area (last .end) ≡ imageBytes sig
   image-long sig L last ok = walk-image (walk-of (O32 d) (O32-laws d) sig start L last 0 ok)
 
-  signature-accepted : (sig : List ℕ) (L : List Placed) (last : State) → plan (O32 d) false sig ≡ good L last → Accepted false sig sig
+  signature-accepted : (sig : List ℕ) (L : List Placed) (last : State) → plan (O32 d) false sig ≡ complete L last → Accepted false sig sig
   signature-accepted sig L last ok = subst (Accepted false sig) (O32-carried d sig L last ok .signature) (planned-accepted d false sig L last ok)
 
   -- ---- the writer
 
-  writer-refuses : (list : List ℕ) (room r place j : ℕ) → (writeInto (O32 d) list room ≡ C.refused r place j) ↔ WriterRefuses list room r place j
+  writer-refuses : (list : List ℕ) (room r place j : ℕ) → (writeInto (O32 d) list room ≡ refused r place j) ↔ WriterRefuses list room r place j
   writer-refuses list room r place j = ((λ e. there (write-refused (O32 d) list room r place j .0 e)), λ v. write-refused (O32 d) list room r place j .1 (back v))
     where
       there : A.WriteRefused (O32 d) list room r place j → WriterRefuses list room r place j
@@ -72,7 +71,7 @@ module _ (d : Device) where
 
   -- ---- the reader
 
-  reader-refuses : (sig img : List ℕ) (room r place j : ℕ) → (readInto (O32 d) sig img room ≡ C.refused r place j) ↔ ReaderRefuses sig img room r place j
+  reader-refuses : (sig img : List ℕ) (room r place j : ℕ) → (readInto (O32 d) sig img room ≡ refused r place j) ↔ ReaderRefuses sig img room r place j
   reader-refuses sig img room r place j =
       ((λ e. there (read-refused (O32 d) (O32-laws d) sig img room r place j .0 e)), λ v. read-refused (O32 d) (O32-laws d) sig img room r place j .1 (back v))
     where
@@ -114,16 +113,16 @@ module _ (d : Device) where
   reader-numbered (R.improper a g h x w) = omega arith
 
   -- an answer is no refusal exactly when there is none
-  accepts : (a : C.Answer) (P : ℕ → ℕ → ℕ → Type 0) → ((r place j : ℕ) → (a ≡ C.refused r place j) ↔ P r place j) → ((r place j : ℕ) → P r place j → 1 ≤ r)
+  accepts : (a : Outcome) (P : ℕ → ℕ → ℕ → Type 0) → ((r place j : ℕ) → (a ≡ refused r place j) ↔ P r place j) → ((r place j : ℕ) → P r place j → 1 ≤ r)
       → (answerOf a .refusal ≡ 0) ↔ ((r place j : ℕ) → P r place j → ⊥)
   accepts a P same numbered = (
-    (λ e r place j v. let f : answerOf a .refusal ≡ r = ap (λ (x : C.Answer). answerOf x .refusal) (same r place j .1 v) in omega (arith, numbered r place j v)),
+    (λ e r place j v. let f : answerOf a .refusal ≡ r = ap (λ (x : Outcome). answerOf x .refusal) (same r place j .1 v) in omega (arith, numbered r place j v)),
     λ h. none a same h,
   )
     where
-      none : (x : C.Answer) → ((r place j : ℕ) → (x ≡ C.refused r place j) ↔ P r place j) → ((r place j : ℕ) → P r place j → ⊥) → answerOf x .refusal ≡ 0
-      none (C.refused r place j) same h = absurd (h r place j (same r place j .0 refl))
-      none (C.done x) same h = refl
+      none : (x : Outcome) → ((r place j : ℕ) → (x ≡ refused r place j) ↔ P r place j) → ((r place j : ℕ) → P r place j → ⊥) → answerOf x .refusal ≡ 0
+      none (refused r place j) same h = absurd (h r place j (same r place j .0 refl))
+      none (done x) same h = refl
 
   pub refusals : Refusals (functionsOf (O32 d))
   refusals = record {

@@ -1,20 +1,17 @@
 -- Bytes from an offset on lie together in the image: those below offset 16 from their offset on, the rest from 48 on, and all that
--- start at offset 16 or behind it from 32 behind their offset on.
+-- start at offset 16 or after it from 32 after their offset on.
 -- Assumes nothing.
 use mathlib.Core.Path.{_≡_, refl, ap, _∙_}
 use mathlib.Core.Bool.{Bool, true, false}
-use mathlib.Core.List.{List, _∷_, _++_, map-append, append-nil}
+use mathlib.Core.List.{_++_, map-append, append-nil}
 use Prim.Native.Nat.{ℕ, zero, suc, _+_, _-_, _≤_, _<_, min}
 use native.Mathlib.Omega.{arith}
-use native.Mathlib.Nat.{zero-add, suc-add, add-zero, add-suc, min-eq-left, min-eq-right}
+use native.Mathlib.Nat.{add-suc, min-eq-left, min-eq-right}
 use lib.Dec.{ltb}
 use borrow.Author.Tests.{lt-ltb, le-ltb, ltb-true, ltb-false}
-use Rattle.o32.specs.O32.{run}
+use Rattle.places.specs.Places.{run}
 use Rattle.o32_laws.proofs.Laws.{span}
-
-pub run-add : (m n o : ℕ) → run o (m + n) ≡ run o m ++ run (o + m) n
-run-add zero n o = rw (zero-add, add-zero)
-run-add (suc m) n o = rw (suc-add m n) (ap (λ (r : List ℕ). o ∷ r) (run-add m n (suc o) ∙ rw (suc-add o m, ← (add-suc o m))))
+use Rattle.places.proofs.Runs.{run-add}
 
 pub span-low : (n o : ℕ) → o + n ≤ 16 → span o n ≡ run o n
 span-low zero o h = refl

@@ -8,40 +8,36 @@ use lib.ListN.{length, getD}
 use Rattle.device.specs.declared.Device.{Device}
 use Rattle.device.specs.declared.Device.the-variants.{Fpu, NoFpu}
 use Rattle.carried.specs.Image.{Placed}
-use Rattle.o32.specs.declared.Class.the-variants.{Marker, Float}
-use Rattle.o32.specs.Kinds.{kindOf, is}
-use Rattle.o32.specs.Offsets.{extension, width, offset, ending}
-use Rattle.o32.specs.O32.{run, area}
+use Rattle.kinds.specs.declared.Class.the-variants.{Float}
+use Rattle.kinds.specs.Kinds.{kindOf, is}
+use Rattle.o32_offsets.specs.Offsets.{extension, width, offset, endOf}
+use Rattle.places.specs.Places.{run}
+use Rattle.o32.specs.O32.{area}
 
--- Rule 2. Where arguments of these kinds end, if those before them end here. A marker is no argument.
-abbrev pub endOf : ℕ → List ℕ → ℕ
-endOf end [] = end
-endOf end (k ∷ ks) = endOf (cond (is Marker (kindOf k)) end (ending (kindOf k) end)) ks
-
--- Rule 3. The floating register of a kind behind these: $f12 for an s or d with no kind before it, $f14 for an s or d whose only kind
+-- Rule 3. The floating register of a kind after these: $f12 for an s or d with no kind before it, $f14 for an s or d whose only kind
 -- before it is an s or d (a marker between them would be a second kind), and 0 for every other argument. Without a floating-point
 -- unit (request (ii) of document 02) "All arguments go by offset".
-abbrev pub registerBehind : Device → List ℕ → ℕ → ℕ
-registerBehind NoFpu before k = 0
-registerBehind Fpu [] k = cond (is Float (kindOf k)) 12 0
-registerBehind Fpu (j ∷ []) k = cond (is Float (kindOf j) && is Float (kindOf k)) 14 0
-registerBehind Fpu (j ∷ i ∷ js) k = 0
+abbrev pub registerAfter : Device → List ℕ → ℕ → ℕ
+registerAfter NoFpu before k = 0
+registerAfter Fpu [] k = cond (is Float (kindOf k)) 12 0
+registerAfter Fpu (j ∷ []) k = cond (is Float (kindOf j) && is Float (kindOf k)) 14 0
+registerAfter Fpu (j ∷ i ∷ js) k = 0
 
--- Rule 2. The offset of a kind behind these.
-abbrev pub offsetBehind : List ℕ → ℕ → ℕ
-offsetBehind before k = offset (kindOf k) (endOf 0 before)
+-- Rule 2. The offset of a kind after these.
+abbrev pub offsetAfter : List ℕ → ℕ → ℕ
+offsetAfter before k = offset (kindOf k) (endOf 0 before)
 
--- Image byte p carries byte i of the argument of kind k behind these kinds.
+-- Image byte p carries byte i of the argument of kind k after these kinds.
 pub data Carries (d : Device) (before : List ℕ) (k i p : ℕ) : Type 0 where
   -- "Byte i (from 0) of an argument at offset o is carried by image byte o + i where o + i is below 16,
-  low : registerBehind d before k ≡ 0 → offsetBehind before k + i < 16 → p ≡ offsetBehind before k + i → Carries d before k i p
+  low : registerAfter d before k ≡ 0 → offsetAfter before k + i < 16 → p ≡ offsetAfter before k + i → Carries d before k i p
   -- else by image byte 32 + o + i.
-  high : registerBehind d before k ≡ 0 → 16 ≤ offsetBehind before k + i → p ≡ 32 + (offsetBehind before k + i) → Carries d before k i p
+  high : registerAfter d before k ≡ 0 → 16 ≤ offsetAfter before k + i → p ≡ 32 + (offsetAfter before k + i) → Carries d before k i p
   -- An argument of rule 3 has instead the bytes of the register words which that rule names, in its order."
-  single : 1 ≤ registerBehind d before k → kindOf k .size ≡ 4 → p ≡ 16 + 4 * (registerBehind d before k - 12) + i → Carries d before k i p
+  single : 1 ≤ registerAfter d before k → kindOf k .size ≡ 4 → p ≡ 16 + 4 * (registerAfter d before k - 12) + i → Carries d before k i p
   -- Of a double, as request (i) of document 02 mends rule 3: the first four bytes in the odd register, the next four in the even one.
-  odd : 1 ≤ registerBehind d before k → kindOf k .size ≡ 8 → i < 4 → p ≡ 16 + 4 * (registerBehind d before k + 1 - 12) + i → Carries d before k i p
-  even : 1 ≤ registerBehind d before k → kindOf k .size ≡ 8 → 4 ≤ i → p ≡ 16 + 4 * (registerBehind d before k - 12) + (i - 4) → Carries d before k i p
+  odd : 1 ≤ registerAfter d before k → kindOf k .size ≡ 8 → i < 4 → p ≡ 16 + 4 * (registerAfter d before k + 1 - 12) + i → Carries d before k i p
+  even : 1 ≤ registerAfter d before k → kindOf k .size ≡ 8 → 4 ≤ i → p ≡ 16 + 4 * (registerAfter d before k - 12) + (i - 4) → Carries d before k i p
 
 -- The record of this kind is so placed: its body and its promotion are the kind's, it has as many carriers as bytes after promotion,
 -- and carrier i is the image byte that carries byte i.
@@ -51,12 +47,12 @@ pub record CarriedAt (d : Device) (before : List ℕ) (k : ℕ) (s : Placed) : T
   pub long : length (s .carriers) ≡ width (kindOf k)
   pub bytes : (i p : ℕ) → i < width (kindOf k) → (getD (s .carriers) i 0 ≡ p) ↔ Carries d before k i p
 
--- A kind in a signature, with the kinds before and behind it: an argument, or the marker.
+-- A kind in a signature, with the kinds before and after it: an argument, or the marker.
 pub record KindIn (sig : List ℕ) : Type 0 where
   pub before : List ℕ
   pub kind : ℕ
-  pub behind : List ℕ
-  pub here : before ++ (kind ∷ behind) ≡ sig
+  pub after : List ℕ
+  pub here : before ++ (kind ∷ after) ≡ sig
 
 -- Where the arguments before it end, its offset, and its bytes after promotion. (A marker has no bytes; the 0 that stands for its
 -- offset is not used.)
@@ -65,7 +61,7 @@ module _ {sig : List ℕ} (a : KindIn sig) where
   endBefore = endOf 0 (a .before)
 
   abbrev pub offsetOf : ℕ
-  offsetOf = offsetBehind (a .before) (a .kind)
+  offsetOf = offsetAfter (a .before) (a .kind)
 
   abbrev pub widthOf : ℕ
   widthOf = width (kindOf (a .kind))
@@ -96,5 +92,5 @@ listBytes (k ∷ ks) = 1 + kindOf k .size + listBytes ks
 pub record InRuns (before : List ℕ) (k : ℕ) (s : Placed) : Type 0 where
   pub below : 0x40 ≤ k → (o n : ℕ) → o ≡ offset (kindOf k) (endOf 0 before) → n ≡ kindOf k .size → o < 16
       → s .carriers ≡ run o (min (16 - o) n) ++ run 48 (n - (16 - o))
-  pub behind : 0x40 ≤ k → (o n : ℕ) → o ≡ offset (kindOf k) (endOf 0 before) → n ≡ kindOf k .size → 16 ≤ o
+  pub above : 0x40 ≤ k → (o n : ℕ) → o ≡ offset (kindOf k) (endOf 0 before) → n ≡ kindOf k .size → 16 ≤ o
       → s .carriers ≡ run (32 + o) n

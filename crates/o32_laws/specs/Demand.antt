@@ -1,5 +1,5 @@
 -- Demand 3, of what a reader and a writer of O32 answer and leave in the lent buffers. Its text, which the comments here and in
--- answers/specs/Demand.antt quote:
+-- carried/specs/Calls.antt quote:
 --
 -- "The carried bytes are those that the placement rules give to arguments: each argument byte, after promotion, has exactly one, none
 -- shared; structure fill carries nothing. Two accepted images read as the same list exactly when they agree on all carried bytes,
@@ -7,7 +7,7 @@
 -- first one's carried bytes and zero elsewhere, is accepted, reads the same, is a fixed point; two images have the same rewriting
 -- exactly when they read as the same list."
 --
--- Other quotations are of document 01. `functionsOf (O32 d)` (answers/specs/Demand.antt) are `read` and `write` on a device, as their
+-- Other quotations are of document 01. `functionsOf (O32 d)` (carried/specs/Calls.antt) are `read` and `write` on a device, as their
 -- contracts say.
 use mathlib.Core.Path.{_≡_}
 use mathlib.Core.Logic.{_↔_}
@@ -17,9 +17,9 @@ use Prim.Native.Nat.{ℕ, _+_, _≤_, _<_}
 use lib.ListN.{length, getD, take, drop}
 use Rattle.words.specs.Words.{promote}
 use Rattle.device.specs.declared.Device.{Device}
-use Rattle.o32.specs.Kinds.{kindOf}
-use Rattle.o32.specs.Offsets.{extension}
-use Rattle.answers.specs.Demand.{Functions, output, PastSignature, AcceptedSignature, LentBuffers, Accepts, readingOf, AcceptedImages}
+use Rattle.kinds.specs.Kinds.{kindOf}
+use Rattle.o32_offsets.specs.Offsets.{extension}
+use Rattle.carried.specs.Calls.{Functions, output, PastSignature, AcceptedSignature, LentBuffers, Accepts, readingOf, AcceptedImages}
 use Rattle.o32_laws.specs.Carrying.{KindIn, ArgumentByte, CarriedBy, CarriedByte, imageBytes, listBytes}
 use Rattle.o32_laws.specs.Nothing.{EachByte}
 use Rattle.o32_laws.specs.Refusing.{Accepted, Improper}

@@ -6,15 +6,15 @@ use mathlib.Core.Bool.{Bool, true, false, cond, _||_}
 use Prim.Native.Nat.{ℕ, _+_, _-_, _≤_, _<_}
 use lib.ListN.{length, getD, take, drop}
 use Rattle.words.specs.Words.{proper}
-use Rattle.carried.specs.Image.{gather}
-use Rattle.carried.specs.Convention.{behind}
-use Rattle.o32.specs.declared.Class.{Class}
-use Rattle.o32.specs.declared.Class.the-variants.{Unknown, Marker, Pointer, Signed, Unsigned}
-use Rattle.o32.specs.Kinds.{kindOf, is}
-use Rattle.o32.specs.Offsets.{extension, ending}
-use Rattle.o32.specs.O32.{run, carrier}
-use Rattle.answers.specs.Demand.{Result, Functions}
-use Rattle.o32_laws.specs.Carrying.{endOf, KindIn, offsetOf, imageBytes, listBytes}
+use Rattle.places.specs.Places.{gather, run}
+use Rattle.carried.specs.Convention.{bodyLength}
+use Rattle.kinds.specs.declared.Class.{Class}
+use Rattle.kinds.specs.declared.Class.the-variants.{Unknown, Marker, Pointer, Signed, Unsigned}
+use Rattle.kinds.specs.Kinds.{kindOf, is}
+use Rattle.o32_offsets.specs.Offsets.{extension, ending, endOf}
+use Rattle.o32.specs.O32.{carrier}
+use Rattle.carried.specs.Calls.{Result, Functions}
+use Rattle.o32_laws.specs.Carrying.{KindIn, offsetOf, imageBytes, listBytes}
 
 -- How many of these kinds are of a class, and how many arguments they are: "the return pointer counted, the marker not".
 abbrev pub countOf : Class → List ℕ → ℕ
@@ -25,12 +25,12 @@ abbrev pub argumentsIn : List ℕ → ℕ
 argumentsIn [] = 0
 argumentsIn (k ∷ ks) = cond (is Marker (kindOf k)) 0 1 + argumentsIn ks
 
--- The number of the argument that a kind behind these is or would be. "At a record that would be argument k it is k; at a
+-- The number of the argument that a kind after these is or would be. "At a record that would be argument k it is k; at a
 -- misplaced marker or an unknown kind 0" (request (iv) of document 02).
-abbrev pub argumentBehind : List ℕ → ℕ → ℕ
-argumentBehind before k = cond (is Unknown (kindOf k) || is Marker (kindOf k)) 0 (argumentsIn before + 1)
+abbrev pub argumentAfter : List ℕ → ℕ → ℕ
+argumentAfter before k = cond (is Unknown (kindOf k) || is Marker (kindOf k)) 0 (argumentsIn before + 1)
 
--- ---- 1 to 5: the conditions at a kind k behind these kinds, with so many bytes left behind it, in a list (true) or a signature
+-- ---- 1 to 5: the conditions at a kind k after these kinds, with so many bytes left after it, in a list (true) or a signature
 -- (false)
 
 -- 2, "marker or return pointer misplaced or repeated". "The marker stands at most once, and after at least one argument that is no
@@ -54,7 +54,7 @@ pub data Condition (bodies : Bool) (before : List ℕ) (k left r : ℕ) : Type 0
 -- These bytes are whole records of these kinds, end to end: a kind byte each and, in a list (true), its body.
 abbrev pub Records : Bool → List ℕ → List ℕ → Type 0
 Records bodies [] l = l ≡ []
-Records bodies (k ∷ ks) l = (body : List ℕ) × (rest : List ℕ) × (l ≡ k ∷ (body ++ rest)) × (length body ≡ behind bodies (kindOf k .size)) × Records bodies ks rest
+Records bodies (k ∷ ks) l = (body : List ℕ) × (rest : List ℕ) × (l ≡ k ∷ (body ++ rest)) × (length body ≡ bodyLength bodies (kindOf k .size)) × Records bodies ks rest
 
 -- A list (true) or a signature (false) is accepted, and these are its kinds: its records are whole, so 4 holds at none of them, and
 -- neither do 1, 2, 3 and 5. (These are asked as in a signature, with no bytes left, where 4 cannot hold.)
@@ -70,7 +70,7 @@ pub record RefusedAt (bodies : Bool) (l : List ℕ) (r place j : ℕ) : Type 0 w
   pub accepted : Accepted bodies (take place l) before
   pub holds : Condition bodies before (getD l place 0) (length l - (place + 1)) r
   pub first : (q : ℕ) → q < r → Condition bodies before (getD l place 0) (length l - (place + 1)) q → ⊥
-  pub number : j ≡ argumentBehind before (getD l place 0)
+  pub number : j ≡ argumentAfter before (getD l place 0)
 
 -- ---- 8
 
@@ -86,7 +86,7 @@ pub record FirstImproper (sig img : List ℕ) (place j : ℕ) : Type 0 where
   pub at : place ≡ length (argument .before)
   pub improper : Improper argument img
   pub first : (a : KindIn sig) → length (a .before) < place → Improper a img → ⊥
-  pub number : j ≡ argumentBehind (argument .before) (argument .kind)
+  pub number : j ≡ argumentAfter (argument .before) (argument .kind)
 
 -- ---- all refusals, in their order: "1 to 5. After the last: 6, 7, 8". None depends on the device.
 

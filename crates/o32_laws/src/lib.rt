@@ -1,1 +1,1 @@
-// What holds of O32's placement: facts of all kinds, the carried-bytes theorem, the law of carried bytes. There is no code.
+// What holds of O32: demands 1 and 3, said of the kinds of a signature, and the laws that its passes need. There is no code.

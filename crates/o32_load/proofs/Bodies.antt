@@ -11,18 +11,17 @@ use lib.ListN.{length, take, drop}
 use borrow.Author.Tests.{eqb-true, eqb-false, eq-eqb, ne-eqb}
 use Rattle.words.specs.Words.{toWord, body, proper}
 use Rattle.words.proofs.Bytes.{body-whole, proper-whole}
-use Rattle.carried.specs.Image.{gather}
-use Rattle.carried.proofs.Places.{length-gather}
-use Rattle.o32.specs.declared.Class.the-variants.{Signed, Unsigned}
+use Rattle.places.specs.Places.{gather, run}
+use Rattle.places.proofs.Places.{length-gather}
+use Rattle.kinds.specs.declared.Class.the-variants.{Signed, Unsigned}
 use Rattle.o32.specs.declared.Placement.{Placement}
-use Rattle.o32.specs.Kinds.{is}
-use Rattle.o32.specs.Offsets.{extension, width}
-use Rattle.o32.specs.O32.{run, floatBytes, carrier, carriers}
+use Rattle.kinds.specs.Kinds.{is}
+use Rattle.o32_offsets.specs.Offsets.{extension, width}
+use Rattle.o32.specs.O32.{floatBytes, carrier, carriers}
 use Rattle.o32_laws.proofs.Laws.{length-span, length-float}
-use Rattle.o32_laws.proofs.KindFacts.{float-width}
+use Rattle.o32_offsets.proofs.Offsets.{float-width}
 use Rattle.o32_laws.specs.Fitting.{Fit, Floating}
-use Rattle.o32_store.proofs.Floats.{bounds}
-use Rattle.o32_store.proofs.Arguments.{Worded, Plain, body-fits}
+use Rattle.o32_laws.proofs.Fitting.{float-bounds, Worded, Plain, body-fits}
 use Rattle.o32_load.proofs.Parts.{gather-word, body-part}
 
 carrier-le : (o : ℕ) → carrier o ≤ 32 + o
@@ -53,7 +52,7 @@ module _ (p : Placement) (img : List ℕ) (fit : Fit p (length img)) where
     where
       go : (t : Bool) → eqb (p .register) 0 ≡ t → p .register ≡ 0
       go true e = eqb-true (p .register) 0 e
-      go false e = absurd (omega (arith, body-fits fit w, bounds (fit .floating (omega (arith, eqb-false (p .register) 0 e)) .1)))
+      go false e = absurd (omega (arith, body-fits fit w, float-bounds (fit .floating (omega (arith, eqb-false (p .register) 0 e)) .1)))
 
   -- ---- how many they are, and where a word is
 

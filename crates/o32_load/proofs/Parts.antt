@@ -3,33 +3,29 @@
 use mathlib.Core.Path.{_≡_, refl, sym, ap, ap₂, _∙_}
 use mathlib.Core.List.{List, [], _∷_, _++_, map}
 use mathlib.Core.Bool.{Bool, true, false}
-use Prim.Native.Nat.{ℕ, zero, suc, _+_, _-_, _*_, _%_, _≤_}
+use Prim.Native.Nat.{ℕ, _+_, _-_, _*_, _%_, _≤_}
 use native.Mathlib.Omega.{arith}
 use native.Mathlib.Nat.{sub-add-cancel}
 use lib.Dec.{ltb}
 use lib.ListN.{length, take, drop, length-drop}
-use lib.Seq.{length-take-le, drop-cons, drop-at, drop-drop, take-add}
+use lib.Seq.{length-take-le, drop-at, drop-drop, take-add}
 use borrow.Author.Tests.{ltb-true, ltb-false}
 use Rattle.words.specs.Words.{body}
-use Rattle.carried.specs.Image.{gather, put}
-use Rattle.carried.proofs.Places.{gather-append, put-append}
-use Rattle.o32.specs.O32.{run, registerBytes, carrier}
-use Rattle.o32_laws.proofs.Laws.{length-run}
-use Rattle.o32_laws.proofs.Runs.{run-add, span-low, span-high, span-split}
+use Rattle.places.specs.Places.{gather, put, run}
+use Rattle.places.proofs.Places.{gather-append, put-append}
+use Rattle.o32.specs.O32.{registerBytes, carrier}
+use Rattle.places.proofs.Runs.{length-run, run-add, gather-run}
+use Rattle.o32_laws.proofs.Runs.{span-low, span-high, span-split}
 
 -- ---- read at bytes that lie together
 
 module _ (img : List ℕ) where
-  gather-run : (n p : ℕ) → p + n ≤ length img → gather img (run p n) ≡ take n (drop p img)
-  gather-run zero p h = refl
-  gather-run (suc n) p h = rw (gather-run n (suc p) (omega arith), drop-cons img p 0 (omega arith))
-
   -- n bytes from offset o on, which all lie in the register words, or all in the area
   pub gather-low : (n o : ℕ) → o + n ≤ 16 → o + n ≤ length img → gather img (map carrier (run o n)) ≡ take n (drop o img)
-  gather-low n o h l = rw (span-low n o h) (gather-run n o l)
+  gather-low n o h l = rw (span-low n o h) (gather-run img n o l)
 
   pub gather-high : (n o : ℕ) → 16 ≤ o → 32 + (o + n) ≤ length img → gather img (map carrier (run o n)) ≡ take n (drop (32 + o) img)
-  gather-high n o h l = rw (span-high n o h) (gather-run n (32 + o) (omega arith))
+  gather-high n o h l = rw (span-high n o h) (gather-run img n (32 + o) (omega arith))
 
   -- a word always lies in one of them
   pub gather-word : (o : ℕ) → o % 4 ≡ 0 → 36 + o ≤ length img → gather img (map carrier (run o 4)) ≡ take 4 (drop (carrier o) img)
@@ -39,12 +35,12 @@ module _ (img : List ℕ) where
       go true e = gather-low 4 o (omega (arith, ltb-true o 16 e)) (omega arith) ∙ rw e
       go false e = gather-high 4 o (ltb-false o 16 e) (omega arith) ∙ rw e
 
--- bytes of two runs, read and stored one behind the other
-read-behind : (img out out′ out″ : List ℕ) (m n p q to : ℕ) → p + m ≤ length img → q + n ≤ length img
+-- bytes of two runs, read and stored one after the other
+read-after : (img out out′ out″ : List ℕ) (m n p q to : ℕ) → p + m ≤ length img → q + n ≤ length img
     → out′ ≡ put out (run to m) (take m (drop p img))
     → out″ ≡ put out′ (run (to + m) n) (take n (drop q img))
     → out″ ≡ put out (run to (m + n)) (gather img (run p m ++ run q n))
-read-behind img out out′ out″ m n p q to h g d e =
+read-after img out out′ out″ m n p q to h g d e =
     let first = take m (drop p img) in
     let then = take n (drop q img) in
     let long : length first ≡ length (run to m) = length-take-le m (drop p img) (rw length-drop (omega arith)) ∙ sym (length-run m to) in
@@ -59,10 +55,10 @@ pub stored-split : (img out out′ out″ : List ℕ) (n o to : ℕ) → o ≤ 1
     → out″ ≡ put out (run to n) (gather img (map carrier (run o n)))
 stored-split img out out′ out″ n o to h g l d e =
     let count : 16 - o + (n - (16 - o)) ≡ n = omega arith in
-    read-behind img out out′ out″ (16 - o) (n - (16 - o)) o 48 to (omega arith) (omega arith) d e
+    read-after img out out′ out″ (16 - o) (n - (16 - o)) o 48 to (omega arith) (omega arith) d e
     ∙ ap₂ (λ (k : ℕ) (ps : List ℕ). put out (run to k) (gather img ps)) count (sym (span-split n o h g))
 
--- the word of a register, and behind it that of another
+-- the word of a register, and after it that of another
 module _ (img out out′ : List ℕ) (f p to : ℕ) (first : out′ ≡ put out (run to 4) (take 4 (drop p img))) (at : p ≡ 16 + 4 * (f - 12)) (inside : p + 4 ≤ length img) where
   pub read-one : out′ ≡ put out (run to 4) (gather img (registerBytes (f ∷ [])))
   read-one = first ∙ ap (put out (run to 4)) (sym (gather-run img 4 p inside)) ∙ ap (λ (x : ℕ). put out (run to 4) (gather img (run x 4))) at
@@ -70,7 +66,7 @@ module _ (img out out′ : List ℕ) (f p to : ℕ) (first : out′ ≡ put out 
   pub read-two : (out″ : List ℕ) (g q : ℕ) → out″ ≡ put out′ (run (to + 4) 4) (take 4 (drop q img)) → q ≡ 16 + 4 * (g - 12) → q + 4 ≤ length img
       → out″ ≡ put out (run to 8) (gather img (registerBytes (f ∷ g ∷ [])))
   read-two out″ g q second e h =
-      read-behind img out out′ out″ 4 4 p q to inside h first second
+      read-after img out out′ out″ 4 4 p q to inside h first second
       ∙ ap₂ (λ (x y : ℕ). put out (run to 8) (gather img (run x 4 ++ run y 4))) at e
 
 -- ---- the body in bytes

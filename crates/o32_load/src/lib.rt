@@ -4,16 +4,16 @@ ghost use mathlib.Core.Path.{_≡_};
 ghost use Prim.Native.Nat.{_+_, _≤_};
 ghost use lib.ListN.{length};
 ghost use Rattle.words.specs.Words.{body, proper};
-ghost use Rattle.carried.specs.Image.{gather, put};
-ghost use Rattle.o32.specs.Offsets.{extension};
-ghost use Rattle.o32.specs.O32.{carrier, carriers, floatBytes, run};
+ghost use Rattle.places.specs.Places.{gather, put, run};
+ghost use Rattle.o32_offsets.specs.Offsets.{extension};
+ghost use Rattle.o32.specs.O32.{carrier, carriers, endMost, floatBytes};
 ghost use Rattle.o32_laws.specs.Fitting.{Fit, Floating};
-use o32::Class;
+use kinds::Class;
 use o32::Placement;
 
 // The image byte of byte o of the arguments' structure.
 fn position(o: usize) -> usize
-    requires { ⌜ o ≤ 1024 ⌝ }
+    requires { ⌜ o ≤ endMost ⌝ }
     ensures { λ r. ⌜ r ≡ carrier o ⌝ }
 {
     if o < 16 { o } else { 32 + o }
@@ -45,16 +45,16 @@ fn get_plain(image: &[u8], o: usize, out: &mut [u8], to: usize, size: usize)
     ensures { λ _. ⌜ now (out .exit) ≡ put (now (out .entry)) (run to size) (gather (now (image .entry)) (map carrier (run o size))) ⌝ }
 {
     if 16 <= o {
-        o32_store::copy(out, to, image, 32 + o, size);
+        places::copy(out, to, image, 32 + o, size);
         return;
     }
     let low = 16 - o;
     if size <= low {
-        o32_store::copy(out, to, image, o, size);
+        places::copy(out, to, image, o, size);
         return;
     }
-    o32_store::copy(out, to, image, o, low);
-    o32_store::copy(out, to + low, image, 48, size - low);
+    places::copy(out, to, image, o, low);
+    places::copy(out, to + low, image, 48, size - low);
 }
 
 // A float from the word of its register, or a double from those of its pair.
@@ -66,11 +66,11 @@ fn get_float(image: &[u8], register: usize, out: &mut [u8], to: usize, size: usi
     let even = 4 * register - 32; // the image byte where the register's word starts
     if size == 8 {
         let odd = even + 4;
-        o32_store::copy(out, to, image, odd, 4); // the high half, from the odd register
-        o32_store::copy(out, to + 4, image, even, 4); // the low half, from the even one
+        places::copy(out, to, image, odd, 4); // the high half, from the odd register
+        places::copy(out, to + 4, image, even, 4); // the low half, from the even one
         return;
     }
-    o32_store::copy(out, to, image, even, 4);
+    places::copy(out, to, image, even, 4);
 }
 
 // The body of an argument, into a list.
@@ -87,9 +87,9 @@ pub fn get_body(image: &[u8], place: Placement, out: &mut [u8], to: usize)
         return;
     }
     let o = place.offset;
-    let width = kinds::width_of(kind);
+    let width = o32_offsets::width_of(kind);
     if size < width {
-        o32_store::copy(out, to, image, position(o) + (width - size), size);
+        places::copy(out, to, image, position(o) + (width - size), size);
         return;
     }
     get_plain(image, o, out, to, size);

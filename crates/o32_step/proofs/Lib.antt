@@ -1,3 +1,3 @@
-pub mod Answers
+pub mod Returns
 pub mod Taken
 pub mod Ahead

@@ -1,4 +1,4 @@
--- A run of bytes stored into the words of `$4` to `$7`, one word behind the other.
+-- A run of bytes stored into the words of `$4` to `$7`, one word after the other.
 -- Assumes nothing.
 use mathlib.Core.Path.{_≡_, refl, ap, _∙_}
 use mathlib.Core.List.{List, [], _∷_, append-nil}
@@ -13,10 +13,9 @@ use lib.Seq.{length-take-le, drop-cons}
 use lib.Dec.{ltb}
 use borrow.Author.Tests.{lt-ltb, le-ltb, ltb-true, ltb-false}
 use Rattle.words.specs.Words.{bytesOf}
-use Rattle.carried.specs.Image.{put}
-use Rattle.o32.specs.O32.{run}
+use Rattle.places.specs.Places.{put, run}
 use Rattle.o32_store.specs.Block.{bytesInWord}
-use Rattle.o32_store.proofs.Stores.{put-next, store-more}
+use Rattle.places.proofs.Stores.{put-next, store-more}
 
 -- ---- how many bytes are in a word
 
@@ -26,8 +25,8 @@ none-before o n p h = rw (lt-ltb p o h)
 pub those-left : (o n p : ℕ) → o ≤ p → n - (p - o) ≤ 4 → bytesInWord o n p ≡ n - (p - o)
 those-left o n p h g = rw (le-ltb p o h) (min-eq-right g)
 
-pub none-behind : (o n p : ℕ) → o ≤ p → n ≤ p - o → bytesInWord o n p ≡ 0
-none-behind o n p h g = those-left o n p h (omega arith) ∙ omega arith
+pub none-after : (o n p : ℕ) → o ≤ p → n ≤ p - o → bytesInWord o n p ≡ 0
+none-after o n p h g = those-left o n p h (omega arith) ∙ omega arith
 
 pub all-four : (o n p : ℕ) → o ≤ p → 4 ≤ n - (p - o) → bytesInWord o n p ≡ 4
 all-four o n p h g = rw (le-ltb p o h) (min-eq-left g)
@@ -94,7 +93,7 @@ low-next img src o at n k a h = go (ltb (4 * k) o) (ltb n (4 * k - o)) refl refl
         let l : n < 4 * k - o = ltb-true n (4 * k - o) f in
         let x : min n (4 * k - o) ≡ n = min-eq-left (omega arith) in
         let y : min n (4 * (k + 1) - o) ≡ n = min-eq-left (omega arith) in
-        rw (none-behind o n (4 * k) g (omega arith), x, y) refl
+        rw (none-after o n (4 * k) g (omega arith), x, y) refl
     go false false e f =
         let g : o ≤ 4 * k = ltb-false (4 * k) o e in
         let m = 4 * k - o in

@@ -17,7 +17,7 @@ pub promotion-read : (src : List ℕ) (at n size x w : ℕ) (signed : Bool) → 
     → bytesOf 4 w ≡ promote (toWord signed n) (bytesOf n x) → bytesOf 4 w ≡ promote (toWord signed size) (take size (drop at src))
 promotion-read src at n size x w signed b s h e f = f ∙ rw (s, word-read src at n x b (omega arith) e)
 
--- byte k replaced, with m bytes behind it
+-- byte k replaced, with m bytes after it
 pub byte-replaced : (n k m w b r : ℕ) → n ≡ suc k + m → b < 256 → r ≡ (w / 256 ^ m / 256 * 256 + b) * 256 ^ m + w % 256 ^ m → bytesOf n r ≡ set (bytesOf n w) k b
 byte-replaced n k m w b r count h e =
     let p = one-le-pow m 256 (omega arith) in

@@ -2,15 +2,15 @@
 // the area.
 ghost use mathlib.Core.List.{map};
 ghost use mathlib.Core.Path.{_≡_};
-ghost use Prim.Native.Nat.{_%_, _+_, _-_, _<_, _≤_, min};
+ghost use Prim.Native.Nat.{_%_, _+_, _-_, _<_, _≤_};
 ghost use lib.ListN.{drop, length, set, take};
-ghost use Rattle.words.specs.Words.{bytesOf, promote, toWord};
-ghost use Rattle.carried.specs.Image.{put};
-ghost use Rattle.o32.specs.Offsets.{extension};
-ghost use Rattle.o32.specs.O32.{carrier, carriers, floatBytes, run};
-ghost use Rattle.o32_store.specs.Block.{blockBytes, bytesInWord, whole};
+ghost use Rattle.words.specs.Words.{bytesOf, promote, toWord, bytesOfWords};
+ghost use Rattle.places.specs.Places.{put, run};
+ghost use Rattle.o32_offsets.specs.Offsets.{extension};
+ghost use Rattle.o32.specs.O32.{carrier, carriers, endMost, floatBytes};
+ghost use Rattle.o32_store.specs.Block.{bytesInWord, whole};
 ghost use Rattle.o32_laws.specs.Fitting.{Fit, Floating};
-use o32::Class;
+use kinds::Class;
 use o32::Placement;
 
 // The word that the byte (size 1) or halfword (size 2) at a place becomes.
@@ -35,50 +35,6 @@ pub fn write_block(block: [u32; 8], out: &mut [u8])
     while i < 8 {
         words::write_word(out, i * 4, block[i]);
         i += 1;
-    }
-}
-
-// How many bytes of a run are moved at once: 512 are the longest body, and a longer run takes several turns.
-fn chunk_length(left: usize) -> usize
-    ensures { λ r. ⌜ r ≡ min left 512 ⌝ }
-{
-    if left < 512 { left } else { 512 }
-}
-
-// At most 512 bytes of one slice into another, by way of an array. The compiler cannot tell whether two slices overlap; the
-// array overlaps neither, so it makes one move of the two loops and keeps no array.
-fn move_chunk(out: &mut [u8], to: usize, src: &[u8], at: usize, n: usize)
-    requires { ⌜ n ≤ 512 ⌝ }
-    requires { ⌜ (to + n ≤ length (now out)) × (at + n ≤ length (now src)) ⌝ }
-    ensures { λ _. ⌜ now (out .exit) ≡ put (now (out .entry)) (run to n) (take n (drop at (now (src .entry)))) ⌝ }
-{
-    let mut chunk = [0u8; 512];
-    let mut i = 0;
-    while i < n {
-        chunk[i] = src[at + i];
-        i += 1;
-    }
-    let mut j = 0;
-    while j < n {
-        out[to + j] = chunk[j];
-        j += 1;
-    }
-}
-
-// A run of bytes of one slice into another.
-pub fn copy(out: &mut [u8], to: usize, src: &[u8], at: usize, n: usize)
-    requires { ⌜ (to + n ≤ length (now out)) × (at + n ≤ length (now src)) ⌝ }
-    ensures { λ _. ⌜ now (out .exit) ≡ put (now (out .entry)) (run to n) (take n (drop at (now (src .entry)))) ⌝ }
-{
-    if n == 4 { // as most arguments are
-        words::write_word(out, to, words::word_at(src, at));
-        return;
-    }
-    let mut i = 0;
-    while i < n {
-        let m = chunk_length(n - i);
-        move_chunk(out, to + i, src, at + i, m);
-        i += m;
     }
 }
 
@@ -137,7 +93,7 @@ fn low_word(w: u32, p: usize, o: usize, src: &[u8], at: usize, n: usize) -> u32
 fn put_low(block: [u32; 8], o: usize, src: &[u8], at: usize, n: usize) -> [u32; 8]
     requires { ⌜ o % 4 ≡ 0 ⌝ }
     requires { ⌜ (o + n ≤ 16) × (at + n ≤ length (now src)) ⌝ }
-    ensures { λ r. ⌜ blockBytes r ≡ put (blockBytes block) (run o n) (take n (drop at (now (src .entry)))) ⌝ }
+    ensures { λ r. ⌜ bytesOfWords r ≡ put (bytesOfWords block) (run o n) (take n (drop at (now (src .entry)))) ⌝ }
 {
     let mut next = block;
     let mut k = 0;
@@ -166,7 +122,7 @@ fn with_word(block: [u32; 8], j: usize, w: u32) -> [u32; 8]
 // A word of the arguments' structure: below offset 16 in the block, else in the area.
 fn put_word(block: [u32; 8], out: &mut [u8], o: usize, w: u32) -> [u32; 8]
     requires { ⌜ o % 4 ≡ 0 ⌝ }
-    requires { ⌜ (o ≤ 1024) × (36 + o ≤ length (now out)) ⌝ }
+    requires { ⌜ (o ≤ endMost) × (36 + o ≤ length (now out)) ⌝ }
     ensures { λ r. ⌜ whole r (now (out .exit)) ≡ put (whole block (now (out .entry))) (map carrier (run o 4)) (bytesOf 4 w) ⌝ }
 {
     if o < 16 {
@@ -180,7 +136,7 @@ fn put_word(block: [u32; 8], out: &mut [u8], o: usize, w: u32) -> [u32; 8]
 fn put_float(block: [u32; 8], register: usize, src: &[u8], at: usize, size: usize) -> [u32; 8]
     requires { ⌜ Floating register size ⌝ }
     requires { ⌜ at + size ≤ length (now src) ⌝ }
-    ensures { λ r. ⌜ blockBytes r ≡ put (blockBytes block) (floatBytes register size) (take size (drop at (now (src .entry)))) ⌝ }
+    ensures { λ r. ⌜ bytesOfWords r ≡ put (bytesOfWords block) (floatBytes register size) (take size (drop at (now (src .entry)))) ⌝ }
 {
     let i = register - 8;
     let first = words::word_at(src, at);
@@ -210,14 +166,14 @@ fn put_plain(
     ensures { λ r. ⌜ whole r (now (out .exit)) ≡ put (whole block (now (out .entry))) (map carrier (run o size)) (take size (drop at (now (src .entry)))) ⌝ }
 {
     if 16 <= o {
-        copy(out, 32 + o, src, at, size);
+        places::copy(out, 32 + o, src, at, size);
         return block;
     }
     let low = 16 - o;
     if size <= low {
         return put_low(block, o, src, at, size);
     }
-    copy(out, 48, src, at + low, size - low);
+    places::copy(out, 48, src, at + low, size - low);
     put_low(block, o, src, at, low)
 }
 

@@ -4,10 +4,12 @@ ghost use mathlib.Core.Bool.{true};
 ghost use mathlib.Core.Path.{_≡_};
 ghost use Prim.Native.Nat.{_-_, _≤_};
 ghost use lib.ListN.{drop, length, replicate};
+ghost use Rattle.places.specs.Places.{put};
+ghost use Rattle.carried.specs.Image.{carried, image, promotedBytes};
 ghost use Rattle.carried.specs.Convention.{plan};
+ghost use Rattle.passes.specs.Passes.{Admitted, placedIn};
 ghost use Rattle.o32.specs.O32.{O32};
 ghost use Rattle.o32_store.specs.Block.{whole};
-ghost use Rattle.o32_writer.specs.Filling.{Fillable, filled, imageIn};
 use device::Device;
 
 // Zero in the area of an image of n bytes.
@@ -24,9 +26,9 @@ fn clear(out: &mut [u8], n: usize)
 
 // The arguments of a list that was accepted, each at its place: in the register block that is answered, and in the area.
 fn fill(device: Device, list: &[u8], out: &mut [u8], n: usize) -> [u32; 8]
-    requires { ⌜ Fillable device (now list) n ⌝ }
+    requires { ⌜ Admitted (O32 device) true (now list) n ⌝ }
     requires { ⌜ n ≤ length (now out) ⌝ }
-    ensures { λ r. ⌜ whole r (now (out .exit)) ≡ filled (plan (O32 device) true (now (list .entry))) (now (list .entry)) (whole (replicate 8 0) (now (out .entry))) ⌝ }
+    ensures { λ r. ⌜ whole r (now (out .exit)) ≡ put (whole (replicate 8 0) (now (out .entry))) (carried (placedIn (plan (O32 device) true (now (list .entry))))) (promotedBytes (placedIn (plan (O32 device) true (now (list .entry)))) (now (list .entry))) ⌝ }
 {
     let mut block = [0u32; 8];
     let mut st = o32_step::start();
@@ -38,16 +40,16 @@ fn fill(device: Device, list: &[u8], out: &mut [u8], n: usize) -> [u32; 8]
         let changed = o32_store::put_argument(block, out, placement, list, body);
         block = changed;
         at = body + kind.size;
-        st = o32_step::state_behind(st, kind, placement.offset);
+        st = o32_step::advance(st, kind, placement.offset);
     }
     block
 }
 
 // The image of a list, n bytes long, into a buffer that has room.
 pub fn lay(device: Device, list: &[u8], out: &mut [u8], n: usize)
-    requires { ⌜ Fillable device (now list) n ⌝ }
+    requires { ⌜ Admitted (O32 device) true (now list) n ⌝ }
     requires { ⌜ n ≤ length (now out) ⌝ }
-    ensures { λ _. ⌜ now (out .exit) ≡ imageIn (plan (O32 device) true (now (list .entry))) (now (list .entry)) n ++ drop n (now (out .entry)) ⌝ }
+    ensures { λ _. ⌜ now (out .exit) ≡ image n (placedIn (plan (O32 device) true (now (list .entry)))) (now (list .entry)) ++ drop n (now (out .entry)) ⌝ }
 {
     clear(out, n);
     let block = fill(device, list, out, n);

@@ -1,41 +1,39 @@
--- Why a list is reported as its first 2,048 bytes are: a longer list is refused, at byte 1,057 or before it, and of what stands behind
+-- Why a list is reported as its first 2,048 bytes are: a longer list is refused, at byte 1,057 or before it, and of what stands after
 -- that byte only whether it has 512 bytes, the longest body, decides.
 -- Assumes nothing.
-use mathlib.Core.Path.{_≡_, refl, sym, ap, _∙_}
+use mathlib.Core.Path.{_≡_, refl, ap, _∙_}
 use mathlib.Core.List.{List}
 use mathlib.Core.Bool.{Bool, true, false}
-use Prim.Native.Nat.{ℕ, _+_, _-_, _≤_, _<_}
+use Prim.Native.Nat.{ℕ, _+_, _-_, _≤_}
 use native.Mathlib.Omega.{arith}
 use lib.ListN.{length, getD, take}
 use lib.Seq.{length-take-le, getD-take, take-take, take-all}
 use lib.Dec.{leb}
 use borrow.Author.Tests.{le-ltb, leb-true, leb-false}
-use Rattle.carried.specs.Convention.{Step, refuse, next, Plan, bad, good, plan, limited, taken, written, write}
+use Rattle.carried.specs.Convention.{Step, refuse, next, Plan, stopped, complete, plan, limited, taken, writePlan, write}
 use Rattle.carried.proofs.Refusals.{StopsAt, plan-stops}
-use Rattle.device.specs.declared.Device.{Device}
 use Rattle.device.specs.declared.Device.the-variants.{Fpu}
 use Rattle.o32.specs.declared.State.{State}
 use Rattle.o32.specs.declared.Placement.{Placement}
-use Rattle.o32.specs.Kinds.{kindOf}
 use Rattle.o32.specs.O32.{O32}
 use Rattle.o32_laws.proofs.Bounds.{refusal-bound, plan-bound}
-use Rattle.o32_laws.proofs.KindFacts.{kind-sound}
-use Rattle.o32_laws.proofs.Steps.{step-says}
+use Rattle.kinds.proofs.KindFacts.{kind-facts}
+use Rattle.o32_laws.proofs.Steps.{step-described}
 use Rattle.report.specs.Report.{textOf, reportText, readLimit, ReadLimit}
 
--- with 512 bytes or more behind a kind byte, it does not matter how many
+-- with 512 bytes or more after a kind byte, it does not matter how many
 enough-left : (st : State) (k left fewer : ℕ) → 512 ≤ left → 512 ≤ fewer → taken (O32 Fpu) true left st k ≡ taken (O32 Fpu) true fewer st k
 enough-left st k left fewer h g = go (O32 Fpu .step st k) refl
   where
     go : (s : Step Placement State) → O32 Fpu .step st k ≡ s → limited (O32 Fpu) true left k s ≡ limited (O32 Fpu) true fewer k s
     go (refuse r j) e = refl
     go (next j p st′) e =
-        let size : p .kind .size ≤ 512 = rw (step-says Fpu st k j p st′ e .at) (kind-sound k .small) in
+        let size : p .kind .size ≤ 512 = rw (step-described Fpu st k j p st′ e .at) (kind-facts k .small) in
         rw (le-ltb left (p .kind .size) (omega arith), le-ltb fewer (p .kind .size) (omega arith))
 
 module _ (n : ℕ) (enough : 1570 ≤ n) (list : List ℕ) where
-  stops-so : n ≤ length list → (r place j : ℕ) → place ≤ 1057 → StopsAt (O32 Fpu) true list r place j → StopsAt (O32 Fpu) true (take n list) r place j
-  stops-so long r place j b w =
+  stops-in-first : n ≤ length list → (r place j : ℕ) → place ≤ 1057 → StopsAt (O32 Fpu) true list r place j → StopsAt (O32 Fpu) true (take n list) r place j
+  stops-in-first long r place j b w =
       let m : length (take n list) ≡ n = length-take-le n list long in
       record {
         inside = omega arith;
@@ -46,21 +44,21 @@ module _ (n : ℕ) (enough : 1570 ≤ n) (list : List ℕ) where
             ∙ enough-left (w .last) (getD list place 0) (length (take n list) - (place + 1)) (length list - (place + 1)) (omega arith) (omega arith) ∙ w .refusal;
       }
 
-  written-so : n ≤ length list → write (O32 Fpu) (take n list) ≡ write (O32 Fpu) list
-  written-so long = go (plan (O32 Fpu) true list) refl
+  written-by-first : n ≤ length list → write (O32 Fpu) (take n list) ≡ write (O32 Fpu) list
+  written-by-first long = go (plan (O32 Fpu) true list) refl
     where
-      go : (q : Plan State) → plan (O32 Fpu) true list ≡ q → write (O32 Fpu) (take n list) ≡ written (O32 Fpu) list q
-      go (good L last) e = absurd (omega (arith, plan-bound Fpu true list L last e .long))
-      go (bad r place j) e =
-          let w = stops-so long r place j (refusal-bound Fpu true list r place j e .0) (plan-stops (O32 Fpu) true list r place j .0 e) in
-          ap (written (O32 Fpu) (take n list)) (plan-stops (O32 Fpu) true (take n list) r place j .1 w)
+      go : (q : Plan State) → plan (O32 Fpu) true list ≡ q → write (O32 Fpu) (take n list) ≡ writePlan (O32 Fpu) (λ n x. x) list q
+      go (complete L last) e = absurd (omega (arith, plan-bound Fpu true list L last e .long))
+      go (stopped r place j) e =
+          let w = stops-in-first long r place j (refusal-bound Fpu true list r place j e .0) (plan-stops (O32 Fpu) true list r place j .0 e) in
+          ap (writePlan (O32 Fpu) (λ n x. x) (take n list)) (plan-stops (O32 Fpu) true (take n list) r place j .1 w)
 
-  first-bytes : reportText (take n list) ≡ reportText list
-  first-bytes = go (leb n (length list)) refl
+  reported-by-first : reportText (take n list) ≡ reportText list
+  reported-by-first = go (leb n (length list)) refl
     where
       go : (t : Bool) → leb n (length list) ≡ t → reportText (take n list) ≡ reportText list
-      go true e = ap textOf (written-so (leb-true n (length list) e))
+      go true e = ap textOf (written-by-first (leb-true n (length list) e))
       go false e = ap reportText (take-all n list (omega (arith, leb-false n (length list) e)))
 
 pub read-limit : ReadLimit
-read-limit = first-bytes readLimit (omega arith)
+read-limit = reported-by-first readLimit (omega arith)

@@ -2,8 +2,9 @@
 use mathlib.Core.List.{List, [], _∷_, _++_}
 use mathlib.Core.Bool.{cond}
 use Prim.Native.Nat.{ℕ, zero, suc, _+_, _*_, _/_, _%_}
-use lib.ListN.{length, getD, drop}
+use lib.ListN.{length, getD}
 use lib.Dec.{ltb}
+use Rattle.answers.specs.Outcomes.{over}
 
 -- A digit below 16 as a character: 0 to 9, then A to F.
 abbrev pub hexDigit : ℕ → ℕ
@@ -37,12 +38,12 @@ unfoldable pub decimal : ℕ → List ℕ
 decimal n = digits (suc n) n
 
 -- "refused "
-abbrev refused : List ℕ
-refused = 114 ∷ 101 ∷ 102 ∷ 117 ∷ 115 ∷ 101 ∷ 100 ∷ 32 ∷ []
+abbrev refusedWord : List ℕ
+refusedWord = 114 ∷ 101 ∷ 102 ∷ 117 ∷ 115 ∷ 101 ∷ 100 ∷ 32 ∷ []
 
 -- " at "
-abbrev at : List ℕ
-at = 32 ∷ 97 ∷ 116 ∷ 32 ∷ []
+abbrev atWord : List ℕ
+atWord = 32 ∷ 97 ∷ 116 ∷ 32 ∷ []
 
 -- " argument "
 abbrev argumentWord : List ℕ
@@ -51,12 +52,12 @@ argumentWord = 32 ∷ 97 ∷ 114 ∷ 103 ∷ 117 ∷ 109 ∷ 101 ∷ 110 ∷ 116
 -- "refused N at P argument K" and a newline.
 abbrev pub refusalText : ℕ → ℕ → ℕ → List ℕ
 refusalText number place argument =
-    refused ++ decimal number ++ at ++ decimal place ++ argumentWord ++ decimal argument ++ (10 ∷ [])
+    refusedWord ++ decimal number ++ atWord ++ decimal place ++ argumentWord ++ decimal argument ++ (10 ∷ [])
 
--- The length of a text in a buffer of so many bytes: 0 where it does not fit.
-abbrev pub answered : List ℕ → ℕ → ℕ
-answered text room = cond (ltb room (length text)) 0 (length text)
+-- How many bytes of a text a buffer of so many bytes takes: all, or none where it does not fit.
+abbrev pub storedLength : List ℕ → ℕ → ℕ
+storedLength text room = cond (ltb room (length text)) 0 (length text)
 
 -- A buffer with a text at its start, and as it was where the text does not fit.
 abbrev pub stored : List ℕ → List ℕ → List ℕ
-stored text out = cond (ltb (length out) (length text)) out (text ++ drop (length text) out)
+stored text out = cond (ltb (length out) (length text)) out (over text out)

@@ -11,6 +11,7 @@ use lib.Dec.{T, leb, lit<}
 use mir.Syntax.{Width, w8, w16, w32, w64, w128}
 use mir.Val.{Fits, SFits, bits, hbits, toZ, ofZ, sel}
 use mir.Facts.{toZ-ofZ, sfits-widen}
+use Rattle.words.proofs.Impossible.{impossible}
 
 -- a width's sign bit is its highest
 sign-bit-below : (w : Width) → 2 ^ hbits w < 2 ^ bits w
@@ -42,7 +43,7 @@ negative-bits w z s t =
 
 not-negative : (w : Width) (z : ℤ) → ltZ z (pos 0) ≡ false → z ≡ pos (ofZ w z)
 not-negative w (pos n) t = refl
-not-negative w (negsuc n) t = let z : _≡_ {A = ℕ} 0 1 = cc in absurd (omega arith)
+not-negative w (negsuc n) t = impossible (cc)
 
 pub positive : (w : Width) (z : ℤ) → SFits w z → ltZ (toZ w (ofZ w z)) (pos 0) ≡ false → toZ w (ofZ w z) ≡ pos (ofZ w z)
 positive w z s t = toZ-ofZ s ∙ not-negative w z (ap (λ (y : ℤ). ltZ y (pos 0)) (sym (toZ-ofZ s)) ∙ t)

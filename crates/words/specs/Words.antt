@@ -14,15 +14,24 @@ abbrev pub bytesOf : ℕ → ℕ → List ℕ
 bytesOf zero x = []
 bytesOf (suc n) x = bytesOf n (x / 256) ++ (x % 256 ∷ [])
 
+-- "Words are big-endian": the bytes of words, in order.
+abbrev pub bytesOfWords : List ℕ → List ℕ
+bytesOfWords [] = []
+bytesOfWords (w ∷ ws) = bytesOf 4 w ++ bytesOfWords ws
+
 -- Rule 1. What promotion puts in front of a body: so many zeros (unsigned), or so many copies of its sign (signed).
 pub data Extension : Type 0 where
   zeros : ℕ → Extension
   signs : ℕ → Extension
 
--- Rule 1. "Bytes and halfwords become words": a signed or unsigned body of so many bytes.
+-- A signed or unsigned body of so many bytes, extended to w bytes.
+abbrev pub toWidth : ℕ → Bool → ℕ → Extension
+toWidth w true size = signs (w - size)
+toWidth w false size = zeros (w - size)
+
+-- Rule 1. "Bytes and halfwords become words".
 abbrev pub toWord : Bool → ℕ → Extension
-toWord true size = signs (4 - size)
-toWord false size = zeros (4 - size)
+toWord = toWidth 4
 
 -- The sign of a body, as a byte: FF where its first bit is set, else 00.
 abbrev pub sign : List ℕ → ℕ

@@ -3,7 +3,7 @@
 use lib.ListN.{length}
 use Rattle.device.specs.declared.Device.{Device}
 use Rattle.o32.specs.O32.{O32}
-use Rattle.answers.specs.Answers.{readInto}
+use Rattle.carried.specs.Convention.{readInto}
 use Rattle.capi.proofs.Bounds.{read-fits, handed}
 use borrow.Author.Needs.{needs}
 use Rattle.capi.proofs.o32_read.Statement.{statement}

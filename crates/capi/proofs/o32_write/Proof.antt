@@ -3,7 +3,7 @@
 use lib.ListN.{length}
 use Rattle.device.specs.declared.Device.{Device}
 use Rattle.o32.specs.O32.{O32}
-use Rattle.answers.specs.Answers.{writeInto}
+use Rattle.carried.specs.Convention.{writeInto}
 use Rattle.capi.proofs.Bounds.{write-fits, handed}
 use borrow.Author.Needs.{needs}
 use Rattle.capi.proofs.o32_write.Statement.{statement}

@@ -6,7 +6,7 @@ use native.Mathlib.Omega.{arith}
 use lib.ListN.{length, drop}
 use denote.Ref.{now}
 use Rattle.case_input.specs.Lines.{placeOf}
-use Rattle.case_input.proofs.Laws.{place-none, place-here, place-on}
+use Rattle.case_input.proofs.Laws.{place-past-end, place-found, place-later}
 use Rattle.case_input.proofs.find.Statement.{statement}
 use Rattle.case_input.proofs.find.Tie as tie
 
@@ -23,7 +23,7 @@ shared-slice-read-if1 : tie.Need-shared-slice-read-if1 Inv-loop μ-loop
 shared-slice-read-if1 c = omega arith
 
 returns : tie.Need-returns Inv-loop μ-loop
-returns c = let s = c .before .before .before .before in let i = c .before .before .before .loop .i in omega (arith, place-here (now (s .args .text)) i (s .args .byte) (omega arith) (c .if1 .taken))
+returns c = let s = c .before .before .before .before in let i = c .before .before .before .loop .i in omega (arith, place-found (now (s .args .text)) i (s .args .byte) (omega arith) (c .if1 .taken))
 
 add-i : tie.Need-add-i Inv-loop μ-loop
 add-i c = omega arith
@@ -32,10 +32,10 @@ loop-less : tie.Need-loop-less Inv-loop μ-loop
 loop-less c = omega arith
 
 loop-again : tie.Need-loop-again Inv-loop μ-loop
-loop-again c = let s = c .before .before .before .before in let i = c .before .before .before .loop .i in omega (arith, place-on (now (s .args .text)) i (s .args .byte) (omega arith) (c .if1 .left))
+loop-again c = let s = c .before .before .before .before in let i = c .before .before .before .loop .i in omega (arith, place-later (now (s .args .text)) i (s .args .byte) (omega arith) (c .if1 .left))
 
 returns-2 : tie.Need-returns-2 Inv-loop μ-loop
-returns-2 c = let s = c .before .before in let i = c .before .loop .i in omega (arith, place-none (now (s .args .text)) i (s .args .byte) (omega arith))
+returns-2 c = let s = c .before .before in let i = c .before .loop .i in omega (arith, place-past-end (now (s .args .text)) i (s .args .byte) (omega arith))
 
 pub find-spec : {M : Type 1} → statement M
 find-spec =

@@ -13,8 +13,8 @@ find-requires c κs = omega arith
 find-requires-2 : tie.Need-find-requires-2
 find-requires-2 c κs = omega arith
 
-ends-requires : tie.Need-ends-requires
-ends-requires c κs = tt
+number-of-requires : tie.Need-number-of-requires
+number-of-requires c κs = tt
 
 returns : tie.Need-returns
 returns c =
@@ -22,38 +22,38 @@ returns c =
     let a = c .before .before .before .find in
     let b = c .before .before .find2 in
     let e = room-none (now (s .line)) (a .result) (b .result) (a .ensures .0) (b .ensures .0) (omega arith) in
-    (c .ends .ensures ∙ sym e, rw (c .ends .ensures) (omega arith))
+    (c .number-of .ensures ∙ sym e, rw (c .number-of .ensures) (omega arith))
 
-add-decimal : tie.Need-add-decimal
-add-decimal c = omega arith
+add-number-at : tie.Need-add-number-at
+add-number-at c = omega arith
 
-decimal-requires : tie.Need-decimal-requires
-decimal-requires c κs = omega arith
+number-at-requires : tie.Need-number-at-requires
+number-at-requires c κs = omega arith
 
-ends-requires-2 : tie.Need-ends-requires-2
-ends-requires-2 c κs = tt
+number-of-requires-2 : tie.Need-number-of-requires-2
+number-of-requires-2 c κs = tt
 
 returns-2 : tie.Need-returns-2
 returns-2 c =
     let s = c .before .before .before .before .before .before .before .before .args in
     let a = c .before .before .before .before .before .before .find in
     let b = c .before .before .before .before .before .find2 in
-    let e = room-wrong (now (s .line)) (a .result) (b .result) (a .ensures .0) (b .ensures .0) (omega arith) (c .before .before .before .decimal .ensures .0) (c .before .if2 .taken) in
-    (c .ends2 .ensures ∙ sym e, rw (c .ends2 .ensures) (omega arith))
+    let e = room-wrong (now (s .line)) (a .result) (b .result) (a .ensures .0) (b .ensures .0) (omega arith) (c .before .before .before .number-at .ensures .0) (c .before .if2 .taken) in
+    (c .number-of2 .ensures ∙ sym e, rw (c .number-of2 .ensures) (omega arith))
 
-add-ends : tie.Need-add-ends
-add-ends c = omega arith
+add-number-of : tie.Need-add-number-of
+add-number-of c = omega arith
 
-ends-requires-3 : tie.Need-ends-requires-3
-ends-requires-3 c κs = tt
+number-of-requires-3 : tie.Need-number-of-requires-3
+number-of-requires-3 c κs = tt
 
 returns-3 : tie.Need-returns-3
 returns-3 c =
     let s = c .before .before .before .before .before .before .before .before .args in
     let a = c .before .before .before .before .before .before .find in
     let b = c .before .before .before .before .before .find2 in
-    let e = room-right (now (s .line)) (a .result) (b .result) (a .ensures .0) (b .ensures .0) (omega arith) (c .before .before .before .decimal .ensures .0) (omega arith) in
-    (c .ends3 .ensures ∙ sym e, rw (c .ends3 .ensures) (omega arith))
+    let e = room-right (now (s .line)) (a .result) (b .result) (a .ensures .0) (b .ensures .0) (omega arith) (c .before .before .before .number-at .ensures .0) (omega arith) in
+    (c .number-of3 .ensures ∙ sym e, rw (c .number-of3 .ensures) (omega arith))
 
 pub room-spec : {M : Type 1} → statement M
 room-spec =
@@ -61,12 +61,12 @@ room-spec =
     (tie.spec
     find-requires
     find-requires-2
-    ends-requires
+    number-of-requires
     returns
-    add-decimal
-    decimal-requires
-    ends-requires-2
+    add-number-at
+    number-at-requires
+    number-of-requires-2
     returns-2
-    add-ends
-    ends-requires-3
+    add-number-of
+    number-of-requires-3
     returns-3)

@@ -5,8 +5,8 @@ use Prim.Native.Nat.{_-_}
 use native.Mathlib.Omega.{arith}
 use lib.ListN.{length, drop}
 use denote.Ref.{now}
-use Rattle.case_output.specs.Shown.{isKept}
-use Rattle.case_output.proofs.Laws.{kept-none, kept-not, kept-on}
+use Rattle.case_output.specs.AnswerText.{isKept}
+use Rattle.case_output.proofs.Laws.{kept-past-end, changed-not-kept, kept-next}
 use Rattle.case_output.proofs.is_kept.Statement.{statement}
 use Rattle.case_output.proofs.is_kept.Tie as tie
 
@@ -23,7 +23,7 @@ shared-slice-read-if1 : tie.Need-shared-slice-read-if1 Inv-loop μ-loop
 shared-slice-read-if1 c = omega arith
 
 returns : tie.Need-returns Inv-loop μ-loop
-returns c = let s = c .before .before .before .before in let l = c .before .before .before .loop in sym (kept-not (now (s .args .out)) (l .i) (omega arith) (c .if1 .taken)) ∙ l .inv
+returns c = let s = c .before .before .before .before in let l = c .before .before .before .loop in sym (changed-not-kept (now (s .args .out)) (l .i) (omega arith) (c .if1 .taken)) ∙ l .inv
 
 add-i : tie.Need-add-i Inv-loop μ-loop
 add-i c = omega arith
@@ -32,10 +32,10 @@ loop-less : tie.Need-loop-less Inv-loop μ-loop
 loop-less c = omega arith
 
 loop-again : tie.Need-loop-again Inv-loop μ-loop
-loop-again c = let s = c .before .before .before .before in let l = c .before .before .before .loop in sym (kept-on (now (s .args .out)) (l .i) (omega arith) (omega arith)) ∙ l .inv
+loop-again c = let s = c .before .before .before .before in let l = c .before .before .before .loop in sym (kept-next (now (s .args .out)) (l .i) (omega arith) (omega arith)) ∙ l .inv
 
 returns-2 : tie.Need-returns-2 Inv-loop μ-loop
-returns-2 c = let s = c .before .before in let l = c .before .loop in sym (kept-none (now (s .args .out)) (l .i) (omega arith)) ∙ l .inv
+returns-2 c = let s = c .before .before in let l = c .before .loop in sym (kept-past-end (now (s .args .out)) (l .i) (omega arith)) ∙ l .inv
 
 pub is-kept-spec : {M : Type 1} → statement M
 is-kept-spec =

@@ -1,6 +1,6 @@
--- `put_answer` meets its contract: its parts lie one behind the other.
+-- `put_answer` meets its contract: its parts lie one after the other.
 -- Assumes nothing.
-use mathlib.Core.Path.{_≡_, refl, sym}
+use mathlib.Core.Path.{_≡_, sym}
 use Prim.Native.Nat.{_+_, _*_, _≤_}
 use native.Mathlib.Omega.{arith}
 use lib.ListN.{length, take}
@@ -15,7 +15,7 @@ use Rattle.case_output.proofs.put_answer.Tie as tie
 shown-length : (c : tie.After-least) → length (take (c .least .result) (now (c .before .before .before .before .before .before .before .args .out))) ≡ c .least .result
 shown-length c = length-take-le _ _ (omega arith)
 
--- and the buffer's length, behind each part.
+-- and the buffer's length, after each part.
 first-kept : (c : tie.After-least) → length (c .before .before .before .put-refusal .last .1 .1 .1 .0) ≡ length (now (c .before .before .before .before .before .before .before .args .text))
 first-kept c = c .before .before .before .put-refusal .kept .1 .1 .1 .0
 
@@ -46,8 +46,8 @@ put-number-requires c κs = omega (arith, shown-length (c .before .before .befor
 is-kept-requires : tie.Need-is-kept-requires
 is-kept-requires c κs = search needs
 
-put-verdict-requires : tie.Need-put-verdict-requires
-put-verdict-requires c κs = omega (arith, shown-length (c .before .before .before .before .before .before .before .before .before .before .before .before), first-kept (c .before .before .before .before .before .before .before .before .before .before .before .before), second-kept (c .before .before .before .before .before .before .before .before .before), third-kept (c .before .before .before .before))
+put-kept-requires : tie.Need-put-kept-requires
+put-kept-requires c κs = omega (arith, shown-length (c .before .before .before .before .before .before .before .before .before .before .before .before), first-kept (c .before .before .before .before .before .before .before .before .before .before .before .before), second-kept (c .before .before .before .before .before .before .before .before .before), third-kept (c .before .before .before .before))
 
 same-length : tie.Need-same-length
 same-length c = search needs
@@ -60,7 +60,7 @@ returns c =
     let l = c .before .before .before .before .before .before .before .before .before .before .before .before .before .before .before .least in
     let b = c .before .before .before .before .before .before .before .before .before .before .before .before .put-bytes in
     let n = c .before .before .before .before .before .before .before .put-number in
-    let v = c .before .before .put-verdict in
+    let v = c .before .before .put-kept in
     let k : length (v .last .1 .0) ≡ length (n .last .1 .1 .0) = v .kept .1 .0 in
     let va : v .result ≤ n .result + 10 = v .ensures .0 in
     let na : n .result ≤ b .result + 7 + 20 = n .ensures .0 in
@@ -69,7 +69,7 @@ returns c =
     let la : l .result ≤ length (now (s .out)) = l .ensures .1 in
     let x : take (l .result) (now (s .out)) ≡ take (s .answer .length) (now (s .out)) = take-least (s .answer .length) (now (s .out)) (l .ensures .0) in (
       omega (arith, start .pre, shown-length (c .before .before .before .before .before .before .before .before .before .before .before .before .before .before .before), first-kept (c .before .before .before .before .before .before .before .before .before .before .before .before .before .before .before), second-kept (c .before .before .before .before .before .before .before .before .before .before .before .before), third-kept (c .before .before .before .before .before .before .before)),
-      rw (v .ensures .1, n .ensures .1, b .ensures .1, a .ensures .1, x, c .before .before .before .before .is-kept .ensures) refl,
+      rw (v .ensures .1, n .ensures .1, b .ensures .1, a .ensures .1, x, c .before .before .before .before .is-kept .ensures),
     )
 
 pub put-answer-spec : {M : Type 1} → statement M
@@ -83,6 +83,6 @@ put-answer-spec =
     slice-aggregate-put-number
     put-number-requires
     is-kept-requires
-    put-verdict-requires
+    put-kept-requires
     same-length
     returns)

@@ -1,4 +1,4 @@
--- `put_byte` meets its contract: its three parts lie one behind the other.
+-- `put_byte` meets its contract: its three parts lie one after the other.
 -- Assumes nothing.
 use mathlib.Core.Path.{_≡_, refl}
 use mathlib.Core.List.{List, [], _∷_}
@@ -13,20 +13,17 @@ use borrow.Author.Needs.{needs}
 use Rattle.case_output.proofs.put_byte.Statement.{statement}
 use Rattle.case_output.proofs.put_byte.Tie as tie
 
-slice-aggregate-put-if : tie.Need-slice-aggregate-put-if
-slice-aggregate-put-if c = omega arith
-
 put-if-requires : tie.Need-put-if-requires
 put-if-requires c κs = omega arith
 
 shared-slice-read-byte : tie.Need-shared-slice-read-byte
 shared-slice-read-byte c = omega arith
 
-high-requires : tie.Need-high-requires
-high-requires c κs = tt
+high-digit-requires : tie.Need-high-digit-requires
+high-digit-requires c κs = tt
 
-low-requires : tie.Need-low-requires
-low-requires c κs = tt
+low-digit-requires : tie.Need-low-digit-requires
+low-digit-requires c κs = tt
 
 slice-aggregate-put : tie.Need-slice-aggregate-put
 slice-aggregate-put c = omega arith
@@ -34,14 +31,11 @@ slice-aggregate-put c = omega arith
 put-requires : tie.Need-put-requires
 put-requires c κs = omega arith
 
-add-closes : tie.Need-add-closes
-add-closes c = omega arith
+add-ends-line : tie.Need-add-ends-line
+add-ends-line c = omega arith
 
-closes-requires : tie.Need-closes-requires
-closes-requires c κs = tt
-
-slice-aggregate-put-if-2 : tie.Need-slice-aggregate-put-if-2
-slice-aggregate-put-if-2 c = omega arith
+ends-line-requires : tie.Need-ends-line-requires
+ends-line-requires c κs = tt
 
 put-if-requires-2 : tie.Need-put-if-requires-2
 put-if-requires-2 c κs = omega arith
@@ -51,36 +45,34 @@ same-length c = search needs
 
 returns : tie.Need-returns
 returns c =
-    let start = c .before .before .before .before .before .before .before .before .before .before .before .before .before .before .before .before .before .before .before .before .before in
+    let start = c .before .before .before .before .before .before .before .before .before .before .before .before .before .before .before .before .before .before .before in
     let s = start .args in
-    let a = c .before .before .before .before .before .before .before .before .before .before .before .before .before .before .before .before .put-if in
-    let d = c .before .before .before .before .before .before .before .before .put in
+    let a = c .before .before .before .before .before .before .before .before .before .before .before .before .before .before .before .put-if in
+    let d = c .before .before .before .before .before .before .before .put in
     let z = c .before .before .put-if2 in
-    let h = c .before .before .before .before .before .before .before .before .before .before .before .before .high in
-    let l = c .before .before .before .before .before .before .before .before .before .before .before .low in
+    let h = c .before .before .before .before .before .before .before .before .before .before .before .high-digit in
+    let l = c .before .before .before .before .before .before .before .before .before .before .low-digit in
     let k : length (a .last .1 .1 .0) ≡ length (now (s .text)) = a .kept .1 .1 .0 in
     let b : a .result ≤ s .at + 1 = a .ensures .0 in
     let m : a .result ≤ length (a .last .1 .1 .0) = omega (arith, start .pre .1) in
     let digits : List ℕ = h .result ∷ l .result ∷ [] in
     let e : digits ≡ hexText (getD (now (s .bytes)) (s .i) 0) = rw (h .ensures, l .ensures) refl in (
       omega arith,
-      rw (← e, ← c .before .before .before .before .before .closes .ensures) (laid-three (take (s .at) (now (s .text))) _ digits _ (a .ensures .1) (take-put digits (a .last .1 .1 .0) m (d .ensures .1) (d .ensures .0)) (z .ensures .1)),
+      rw (← e, ← c .before .before .before .before .ends-line .ensures) (laid-three (take (s .at) (now (s .text))) _ digits _ (a .ensures .1) (take-put digits (a .last .1 .1 .0) m (d .ensures .1) (d .ensures .0)) (z .ensures .1)),
     )
 
 pub put-byte-spec : {M : Type 1} → statement M
 put-byte-spec =
     tie.close
     (tie.spec
-    slice-aggregate-put-if
     put-if-requires
     shared-slice-read-byte
-    high-requires
-    low-requires
+    high-digit-requires
+    low-digit-requires
     slice-aggregate-put
     put-requires
-    add-closes
-    closes-requires
-    slice-aggregate-put-if-2
+    add-ends-line
+    ends-line-requires
     put-if-requires-2
     same-length
     returns)

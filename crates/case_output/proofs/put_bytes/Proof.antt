@@ -6,17 +6,17 @@ use Prim.Native.Nat.{ℕ, _+_, _*_, _-_, _≤_}
 use native.Mathlib.Omega.{arith}
 use lib.ListN.{length, take}
 use denote.Ref.{now}
-use Rattle.case_output.specs.Shown.{bytesText}
-use Rattle.case_output.proofs.Laws.{bytes-on}
+use Rattle.case_output.specs.AnswerText.{bytesText}
+use Rattle.case_output.proofs.Laws.{bytes-next}
 use Rattle.case_output.proofs.put_bytes.Statement.{statement}
 use Rattle.case_output.proofs.put_bytes.Tie as tie
 
 abbrev Inv-loop : tie.InvT-loop
-Inv-loop bytes text₀ at i₀ behind₀ text i behind =
-    (i ≤ length bytes) × (behind ≤ at + 4 * i) × (take behind text ≡ take at text₀ ++ bytesText bytes i) × (length text ≡ length text₀)
+Inv-loop bytes text₀ at i₀ end₀ text i end =
+    (i ≤ length bytes) × (end ≤ at + 4 * i) × (take end text ≡ take at text₀ ++ bytesText bytes i) × (length text ≡ length text₀)
 
 abbrev μ-loop : tie.MeasureT-loop
-μ-loop bytes text₀ at i₀ behind₀ text i behind = length bytes - i
+μ-loop bytes text₀ at i₀ end₀ text i end = length bytes - i
 
 loop-holds : tie.Need-loop-holds Inv-loop μ-loop
 loop-holds c = (omega arith, omega arith, sym (append-nil _), refl)
@@ -35,7 +35,7 @@ loop-again c =
     let s = c .before .before .before .before .before .before .before .before .args in
     let l = c .before .before .before .before .before .loop in
     let p = c .before .before .put-byte in
-    (omega arith, omega arith, bytes-on (take (s .at) (now (s .text))) (now (s .bytes)) (l .i) (l .inv .2) (p .ensures .1), p .kept .1 .1 .0 ∙ l .inv .3)
+    (omega arith, omega arith, bytes-next (take (s .at) (now (s .text))) (now (s .bytes)) (l .i) (l .inv .2) (p .ensures .1), p .kept .1 .1 .0 ∙ l .inv .3)
 
 same-length : tie.Need-same-length Inv-loop μ-loop
 same-length c = omega arith

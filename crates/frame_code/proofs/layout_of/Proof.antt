@@ -4,7 +4,7 @@ use mathlib.Core.Path.{sym, _∙_}
 use native.Mathlib.Omega.{arith}
 use borrow.Author.Tests.{eq-eqb, ne-eqb}
 use Rattle.frame.specs.Frame.{generalAt, localsAt, frameOf, layoutOf}
-use Rattle.frame_code.proofs.Bytes.{Small, small}
+use Rattle.frame.proofs.Accepted.{Accepted, accepted}
 use borrow.Author.Needs.{needs}
 use Rattle.frame_code.proofs.layout_of.Statement.{statement}
 use Rattle.frame_code.proofs.layout_of.Tie as tie
@@ -16,37 +16,37 @@ returns : tie.Need-returns
 unfolding layoutOf
 returns c = simp (← c .before .refusal .ensures, ne-eqb _ _ (c .if1 .taken))
 
-few : (c : tie.Else1) → Small (c .before .before .args .request)
-few c = small (c .before .before .args .device) _ (sym (c .before .refusal .ensures) ∙ c .if1 .left)
+request-accepted : (c : tie.Else1) → Accepted (c .before .before .args .request)
+request-accepted c = accepted (c .before .before .args .device) _ (sym (c .before .refusal .ensures) ∙ c .if1 .left)
 
 build-area-requires : tie.Need-build-area-requires
-build-area-requires c κs = few c .outgoing
+build-area-requires c κs = request-accepted c .outgoing
 
 mul-general : tie.Need-mul-general
-mul-general c = let s = few (c .before .before) in omega arith
+mul-general c = let s = request-accepted (c .before .before) in omega arith
 
 add-general : tie.Need-add-general
-add-general c = let s = few (c .before .before) in omega arith
+add-general c = let s = request-accepted (c .before .before) in omega arith
 
 mul-round-up : tie.Need-mul-round-up
-mul-round-up c = let s = few (c .before .before .before) in omega arith
+mul-round-up c = let s = request-accepted (c .before .before .before) in omega arith
 
 round-up-requires : tie.Need-round-up-requires
-round-up-requires c κs = let s = few (c .before .before .before) in omega arith
+round-up-requires c κs = let s = request-accepted (c .before .before .before) in omega arith
 
 add-locals : tie.Need-add-locals
-add-locals c = let s = few (c .before .before .before .before) in omega arith
+add-locals c = let s = request-accepted (c .before .before .before .before) in omega arith
 
 add-round-up : tie.Need-add-round-up
-add-round-up c = let s = few (c .before .before .before .before .before) in omega arith
+add-round-up c = let s = request-accepted (c .before .before .before .before .before) in omega arith
 
 round-up-requires-2 : tie.Need-round-up-requires-2
-round-up-requires-2 c κs = let s = few (c .before .before .before .before .before) in omega arith
+round-up-requires-2 c κs = let s = request-accepted (c .before .before .before .before .before) in omega arith
 
 returns-2 : tie.Need-returns-2
 unfolding layoutOf frameOf localsAt generalAt
 returns-2 c =
-    let s = few (c .before .before .before .before .before .before) in
+    let s = request-accepted (c .before .before .before .before .before .before) in
     simp (
       ← c .before .before .before .before .before .before .before .refusal .ensures,
       eq-eqb _ _ (c .before .before .before .before .before .before .if1 .left),

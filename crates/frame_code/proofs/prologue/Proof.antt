@@ -7,9 +7,10 @@ use native.Mathlib.Omega.{arith}
 use lib.ListN.{length}
 use Rattle.frame.specs.declared.Request.{Request}
 use Rattle.frame.specs.Frame.{frameOf}
-use Rattle.frame.specs.Words.{prologueWords, bytesOfWords}
+use Rattle.frame.specs.Words.{prologueWords}
+use Rattle.words.specs.Words.{bytesOfWords}
 use Rattle.frame_code.proofs.Bytes.{prologue-none, prologue-length, prologue-put}
-use Rattle.frame_code.proofs.Answers.{Laid, laid, code-refused, code-short, finished}
+use Rattle.frame_code.proofs.Answers.{Laid, laid, code-refused, code-short, done-written}
 use borrow.Author.Needs.{needs}
 use Rattle.frame_code.proofs.prologue.Statement.{statement}
 use Rattle.frame_code.proofs.prologue.Tie as tie
@@ -27,30 +28,30 @@ reply-requires-2 : tie.Need-reply-requires-2
 reply-requires-2 c κs = search needs
 
 -- not refused
-ok : (c : tie.Else1) → Laid (c .before .before .before .args .device) (c .before .before .before .args .request) (c .before .layout-of .result)
-ok c = laid _ _ (c .before .layout-of .ensures) (c .if1 .left)
+accepted-layout : (c : tie.Else1) → Laid (c .before .before .before .args .device) (c .before .before .before .args .request) (c .before .layout-of .result)
+accepted-layout c = laid _ _ (c .before .layout-of .ensures) (c .if1 .left)
 
 returns-2 : tie.Need-returns-2
 returns-2 c =
     let r : Request = c .before .before .before .before .before .args .request in
-    let o = ok (c .before .before) in
+    let o = accepted-layout (c .before .before) in
     let z = prologue-none r (sym (o .frame) ∙ c .before .if2 .taken) in
     let buf : List ℕ = c .before .before .before .before .before .args .out .now in
-    let f = finished (c .before .before .before .before .before .args .device) r (prologueWords r) buf {out = buf} (o .accepted) (sym (ap length z)) (omega arith) (rw z refl) in
+    let f = done-written (c .before .before .before .before .before .args .device) r (prologueWords r) buf {out = buf} (o .accepted) (sym (ap length z)) (omega arith) (rw z refl) in
     (c .reply2 .ensures ∙ f .0, f .1)
 
 saves-length-requires : tie.Need-saves-length-requires
-saves-length-requires c κs = ok (c .before) .masks
+saves-length-requires c κs = accepted-layout (c .before) .areas .masks
 
 add-length : tie.Need-add-length
 add-length c = search needs
 
 -- with a frame
-framed : (c : tie.Else2) → frameOf (c .before .before .before .before .args .request) ≡ 0 → ⊥
-framed c z = c .if2 .left (ok (c .before) .frame ∙ z)
+frame-nonzero : (c : tie.Else2) → frameOf (c .before .before .before .before .args .request) ≡ 0 → ⊥
+frame-nonzero c z = c .if2 .left (accepted-layout (c .before) .frame ∙ z)
 
-size : (c : tie.After-saves-length) → length (bytesOfWords (prologueWords (c .before .before .before .before .before .args .request))) ≡ 4 + c .saves-length .result
-size c = omega (arith, prologue-length (c .before .before .before .before .before .args .request) (framed (c .before)))
+length-is : (c : tie.After-saves-length) → length (bytesOfWords (prologueWords (c .before .before .before .before .before .args .request))) ≡ 4 + c .saves-length .result
+length-is c = omega (arith, prologue-length (c .before .before .before .before .before .args .request) (frame-nonzero (c .before)))
 
 reply-requires-3 : tie.Need-reply-requires-3
 reply-requires-3 c κs = search needs
@@ -58,12 +59,12 @@ reply-requires-3 c κs = search needs
 returns-3 : tie.Need-returns-3
 returns-3 c =
     let s = c .before .before .before .before .before .before .before .args in
-    let o = ok (c .before .before .before .before) in
-    rw (code-short (s .device) (s .request) (prologueWords (s .request)) (length (s .out .now)) (o .accepted) (omega (arith, size (c .before .before))))
+    let o = accepted-layout (c .before .before .before .before) in
+    rw (code-short (s .device) (s .request) (prologueWords (s .request)) (length (s .out .now)) (o .accepted) (omega (arith, length-is (c .before .before))))
     (c .reply3 .ensures, refl)
 
-negated-requires : tie.Need-negated-requires
-negated-requires c κs = let o = ok (c .before .before .before .before) in (omega arith, o .frame-le)
+negate-requires : tie.Need-negate-requires
+negate-requires c κs = let o = accepted-layout (c .before .before .before .before) in (omega arith, o .frame-le)
 
 add-write-word : tie.Need-add-write-word
 add-write-word c = search needs
@@ -73,8 +74,8 @@ write-word-requires c κs = search needs
 
 put-saves-requires : tie.Need-put-saves-requires
 put-saves-requires c κs =
-    let o = ok (c .before .before .before .before .before .before .before .before .before) in
-    ((o .masks, omega arith, omega arith), ((o .floating, o .general), ((omega (arith, o .floating-le), omega (arith, o .general-le)), omega arith)))
+    let o = accepted-layout (c .before .before .before .before .before .before .before .before .before) in
+    (o .areas, ((omega arith, omega arith), omega arith))
 
 reply-requires-4 : tie.Need-reply-requires-4
 reply-requires-4 c κs = search needs
@@ -87,10 +88,10 @@ returns-4 c =
     let z = c .before .before .before .before .before .before .before .before .before .before .before in
     let s = z .before .before .before .before .before .args in
     let r : Request = s .request in
-    let o = ok (z .before .before) in
-    let first = rw (c .before .before .before .before .before .before .before .before .negated .ensures, o .frame) at (c .before .before .before .before .before .before .before .write-word .ensures) in
-    let put = prologue-put r (framed (z .before)) _ _ _ first (c .before .before .before .put-saves .ensures .1) in
-    let f = finished (s .device) r (prologueWords r) (s .out .now) (o .accepted) (sym (size z)) (omega arith) put in
+    let o = accepted-layout (z .before .before) in
+    let first = rw (c .before .before .before .before .before .before .before .before .negate .ensures, o .frame) at (c .before .before .before .before .before .before .before .write-word .ensures) in
+    let put = prologue-put r (frame-nonzero (z .before)) _ _ _ first (c .before .before .before .put-saves .ensures .1) in
+    let f = done-written (s .device) r (prologueWords r) (s .out .now) (o .accepted) (sym (length-is z)) (omega arith) put in
     (c .reply4 .ensures ∙ f .0, f .1)
 
 pub prologue-spec : {M : Type 1} → statement M
@@ -106,7 +107,7 @@ prologue-spec =
     add-length
     reply-requires-3
     returns-3
-    negated-requires
+    negate-requires
     add-write-word
     write-word-requires
     put-saves-requires

@@ -1,9 +1,8 @@
--- `put_pair` meets its contract: its two words stand behind one another.
+-- `put_pair` meets its contract: its two words are the instructions on the halves of the pair.
 -- Assumes nothing.
 use mathlib.Core.Path.{_≡_}
 use Prim.Native.Nat.{_+_, _*_}
 use native.Mathlib.Omega.{arith}
-use Rattle.frame_words.proofs.Emit.{two-words}
 use borrow.Author.Needs.{needs}
 use Rattle.frame_words.proofs.put_pair.Statement.{statement}
 use Rattle.frame_words.proofs.put_pair.Tie as tie
@@ -29,25 +28,18 @@ add-word-3 c = search needs
 word-requires-2 : tie.Need-word-requires-2
 word-requires-2 c κs = search needs
 
-write-word-requires : tie.Need-write-word-requires
-write-word-requires c κs = search needs
-
-add-write-word : tie.Need-add-write-word
-add-write-word c = search needs
-
-write-word-requires-2 : tie.Need-write-word-requires-2
-write-word-requires-2 c κs = search needs
+put-two-words-requires : tie.Need-put-two-words-requires
+put-two-words-requires c κs = search needs
 
 same-length : tie.Need-same-length
 same-length c = search needs
 
 returns : tie.Need-returns
 returns c =
-    let s = c .before .before .before .before .before .before .before .before .before .before .before .args in
-    let w = c .before .before .before .before .before .before .before .before in
-    let even : w .before .word .result ≡ s .op + 65536 * (20 + 2 * s .k) + s .offset = omega arith in
-    let odd : w .word2 .result ≡ s .op + 65536 * (21 + 2 * s .k) + (s .offset + 4) = omega arith in
-    rw (c .before .before .write-word2 .ensures, c .before .before .before .before .before .before .write-word .ensures, even, odd) (two-words (s .out .now) (s .at) _ _)
+    let s = c .before .before .before .before .before .before .before .args in
+    let even : c .before .before .before .before .before .word .result ≡ s .op + 65536 * (20 + 2 * s .k) + s .offset = omega arith in
+    let odd : c .before .before .before .before .word2 .result ≡ s .op + 65536 * (21 + 2 * s .k) + (s .offset + 4) = omega arith in
+    rw (c .before .before .put-two-words .ensures, even, odd)
 
 pub put-pair-spec : {M : Type 1} → statement M
 put-pair-spec =
@@ -60,8 +52,6 @@ put-pair-spec =
     add-word-2
     add-word-3
     word-requires-2
-    write-word-requires
-    add-write-word
-    write-word-requires-2
+    put-two-words-requires
     same-length
     returns)

@@ -5,14 +5,15 @@ use mathlib.Core.Logic.{⊎-elim}
 use Prim.Native.Nat.{_+_, _-_, _*_, _≤_}
 use native.Mathlib.Omega.{arith}
 use lib.ListN.{length}
-use Rattle.frame.specs.Masks.{below}
+use Rattle.frame.specs.Masks.{countBelow}
 use Rattle.frame.specs.Words.{pairAt}
-use Rattle.frame.proofs.Masks.{below-le}
-use Rattle.frame_words.proofs.Emit.{Put, none, kept, room, turn-yes, turn-no}
+use Rattle.frame.proofs.Masks.{count-below-le}
+use Rattle.frame_words.specs.Limits.{offsetMost}
+use Rattle.frame_words.proofs.Emit.{Put, put-none, put-length, put-room, turn-named, turn-unnamed}
 use Rattle.frame_words.proofs.put_pairs.Statement.{statement}
 use Rattle.frame_words.proofs.put_pairs.Tie as tie
 
--- the next save word lies as far into the save area as the next instruction behind the first
+-- the next save word lies as far into the save area as the next instruction from the first one
 abbrev Inv-loop : tie.InvT-loop
 Inv-loop out₀ at op mask start n₀ offset₀ k₀ out n offset k = (k ≤ 6) × (offset + at ≡ start + n) × Put op 8 (pairAt start mask) mask at out₀ k n out
 
@@ -20,34 +21,34 @@ abbrev μ-loop : tie.MeasureT-loop
 μ-loop out₀ at op mask start n₀ offset₀ k₀ out n offset k = 6 - k
 
 loop-holds : tie.Need-loop-holds Inv-loop μ-loop
-loop-holds c = (omega arith, omega arith, none _ _ _ _ _ _ _ (omega arith))
+loop-holds c = (omega arith, omega arith, put-none _ _ _ _ _ _ _ (omega arith))
 
 is-named-requires : tie.Need-is-named-requires Inv-loop μ-loop
 is-named-requires c κs = omega arith
 
 -- where the next save word lies, and that an instruction reaches it
-lies : (c : tie.At-loop Inv-loop μ-loop) → c .loop .offset ≡ c .before .before .args .start + 8 * below (c .before .before .args .mask) (c .loop .k)
-lies c = omega (arith, c .loop .inv .2 .place)
+offset-is : (c : tie.At-loop Inv-loop μ-loop) → c .loop .offset ≡ c .before .before .args .start + 8 * countBelow (c .before .before .args .mask) (c .loop .k)
+offset-is c = omega (arith, c .loop .inv .2 .place)
 
-near : (c : tie.At-loop Inv-loop μ-loop) → c .loop .offset ≤ 5000
-near c = omega (arith, lies c, below-le (c .before .before .args .mask) (c .loop .k))
+offset-small : (c : tie.At-loop Inv-loop μ-loop) → c .loop .offset + 8 ≤ offsetMost
+offset-small c = omega (arith, offset-is c, count-below-le (c .before .before .args .mask) (c .loop .k))
 
 -- there is room for what is named
-fits : (c : tie.Then1 Inv-loop μ-loop) → c .before .before .before .loop .n + 8 ≤ length (c .before .before .before .loop .out)
-fits c =
-    room (c .before .before .before .loop .inv .2) 6 (c .before .before .loop-test .taken) (sym (c .before .is-named .ensures) ∙ c .if1 .taken)
+next-fits : (c : tie.Then1 Inv-loop μ-loop) → c .before .before .before .loop .n + 8 ≤ length (c .before .before .before .loop .out)
+next-fits c =
+    put-room (c .before .before .before .loop .inv .2) 6 (c .before .before .loop-test .taken) (sym (c .before .is-named .ensures) ∙ c .if1 .taken)
     (c .before .before .before .before .before .pre .1)
 
 put-pair-requires : tie.Need-put-pair-requires Inv-loop μ-loop
 put-pair-requires c κs =
-    let h = near (c .before .before .before .before) in
-    (c .before .before .before .before .before .before .pre .0 .0, omega arith, c .before .before .before .loop-test .taken, fits (c .before))
+    let h = offset-small (c .before .before .before .before) in
+    (c .before .before .before .before .before .before .pre .0 .0, omega arith, c .before .before .before .loop-test .taken, next-fits (c .before))
 
 add-n : tie.Need-add-n Inv-loop μ-loop
-add-n c = omega (arith, fits (c .before .before .before .before), kept (c .before .before .before .before .before .before .before .loop .inv .2))
+add-n c = omega (arith, next-fits (c .before .before .before .before), put-length (c .before .before .before .before .before .before .before .loop .inv .2))
 
 add-offset : tie.Need-add-offset Inv-loop μ-loop
-add-offset c = omega (arith, near (c .before .before .before .before .before .before .before))
+add-offset c = omega (arith, offset-small (c .before .before .before .before .before .before .before))
 
 add-k : tie.Need-add-k Inv-loop μ-loop
 add-k c = omega arith
@@ -62,13 +63,13 @@ loop-again c =
       omega arith,
       ⊎-elim (λ w. omega arith) (λ w. omega arith) (c .if1 .came),
       ⊎-elim
-          (λ w. turn-yes p (λ j. refl) (e ∙ w .0 .taken) (w .6) (w .5 ∙ rw (lies (c .before .before .before)) at (w .2 .ensures)))
-          (λ w. turn-no p (e ∙ w .0 .left) (w .2) (w .1))
+          (λ w. turn-named p (λ j. refl) (e ∙ w .0 .taken) (w .6) (w .5 ∙ rw (offset-is (c .before .before .before)) at (w .2 .ensures)))
+          (λ w. turn-unnamed p (e ∙ w .0 .left) (w .2) (w .1))
           (c .if1 .came),
     )
 
 same-length : tie.Need-same-length Inv-loop μ-loop
-same-length c = kept (c .before .loop .inv .2)
+same-length c = put-length (c .before .loop .inv .2)
 
 returns : tie.Need-returns Inv-loop μ-loop
 returns c =

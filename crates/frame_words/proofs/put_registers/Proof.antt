@@ -5,9 +5,9 @@ use mathlib.Core.Logic.{⊎-elim}
 use Prim.Native.Nat.{_+_, _-_, _*_, _≤_}
 use native.Mathlib.Omega.{arith}
 use lib.ListN.{length}
-use Rattle.frame.specs.Masks.{below}
+use Rattle.frame.specs.Masks.{countBelow}
 use Rattle.frame.specs.Words.{registerAt}
-use Rattle.frame_words.proofs.Emit.{Put, none, kept, room, turn-yes, turn-no}
+use Rattle.frame_words.proofs.Emit.{Put, put-none, put-length, put-room, turn-named, turn-unnamed}
 use Rattle.frame_words.proofs.put_registers.Statement.{statement}
 use Rattle.frame_words.proofs.put_registers.Tie as tie
 
@@ -19,15 +19,15 @@ abbrev μ-loop : tie.MeasureT-loop
 μ-loop out₀ at op mask start n₀ k₀ out n k = 32 - k
 
 loop-holds : tie.Need-loop-holds Inv-loop μ-loop
-loop-holds c = (omega arith, none _ _ _ _ _ _ _ (c .before .pre .1 .1))
+loop-holds c = (omega arith, put-none _ _ _ _ _ _ _ (c .before .pre .1 .1))
 
 is-named-requires : tie.Need-is-named-requires Inv-loop μ-loop
 is-named-requires c κs = omega arith
 
 -- there is room for what is named
-fits : (c : tie.Then1 Inv-loop μ-loop) → c .before .before .before .loop .n + 4 ≤ length (c .before .before .before .loop .out)
-fits c =
-    room (c .before .before .before .loop .inv .1) 32 (c .before .before .loop-test .taken) (sym (c .before .is-named .ensures) ∙ c .if1 .taken)
+next-fits : (c : tie.Then1 Inv-loop μ-loop) → c .before .before .before .loop .n + 4 ≤ length (c .before .before .before .loop .out)
+next-fits c =
+    put-room (c .before .before .before .loop .inv .1) 32 (c .before .before .loop-test .taken) (sym (c .before .is-named .ensures) ∙ c .if1 .taken)
     (c .before .before .before .before .before .pre .1 .0)
 
 count-below-requires : tie.Need-count-below-requires Inv-loop μ-loop
@@ -43,10 +43,10 @@ word-requires : tie.Need-word-requires Inv-loop μ-loop
 word-requires c κs = (c .before .before .before .before .before .before .before .pre .0 .0, omega arith, omega arith)
 
 write-word-requires : tie.Need-write-word-requires Inv-loop μ-loop
-write-word-requires c κs = fits (c .before .before .before)
+write-word-requires c κs = next-fits (c .before .before .before)
 
 add-n : tie.Need-add-n Inv-loop μ-loop
-add-n c = omega (arith, fits (c .before .before .before .before .before .before), kept (c .before .before .before .before .before .before .before .before .before .loop .inv .1))
+add-n c = omega (arith, next-fits (c .before .before .before .before .before .before), put-length (c .before .before .before .before .before .before .before .before .before .loop .inv .1))
 
 add-k : tie.Need-add-k Inv-loop μ-loop
 add-k c = omega arith
@@ -62,14 +62,14 @@ loop-again c =
       omega arith,
       ⊎-elim
           (λ w.
-          let q : w .3 .result ≡ s .op + 65536 * l .k + (s .start + 4 * below (s .mask) (l .k)) = omega arith in
-          turn-yes (l .inv .1) (λ j. refl) (e ∙ w .0 .taken) (w .8) (w .7 ∙ rw q at (w .4 .ensures)))
-          (λ w. turn-no (l .inv .1) (e ∙ w .0 .left) (w .2) (w .1))
+          let q : w .3 .result ≡ s .op + 65536 * l .k + (s .start + 4 * countBelow (s .mask) (l .k)) = omega arith in
+          turn-named (l .inv .1) (λ j. refl) (e ∙ w .0 .taken) (w .8) (w .7 ∙ rw q at (w .4 .ensures)))
+          (λ w. turn-unnamed (l .inv .1) (e ∙ w .0 .left) (w .2) (w .1))
           (c .if1 .came),
     )
 
 same-length : tie.Need-same-length Inv-loop μ-loop
-same-length c = kept (c .before .loop .inv .1)
+same-length c = put-length (c .before .loop .inv .1)
 
 returns : tie.Need-returns Inv-loop μ-loop
 returns c =

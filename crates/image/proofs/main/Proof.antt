@@ -2,10 +2,9 @@
 -- Assumes nothing.
 use mathlib.Core.Path.{sym, subst}
 use Prim.Native.Nat.{_≤_}
-use lib.ListN.{length, take}
+use lib.ListN.{length}
 use lib.Seq.{length-take-le}
 use borrow.Author.Needs.{needs}
-use Rattle.report.proofs.Fits.{report-within}
 use Rattle.image.specs.declared.Input.{Input}
 use Rattle.image.specs.Input.{Within}
 use Rattle.image.proofs.main.Statement.{statement}
@@ -14,12 +13,6 @@ use Rattle.image.proofs.main.Tie as tie
 -- Where bytes were read: their number lies within the buffer.
 in-list : (c : tie.After-input) → c .input .given .0 .0 ≤ length (c .before .before .before .read-list .last .0)
 in-list c = subst (λ (i : Input). Within i (length (c .before .before .before .read-list .last .0))) (c .input .given .1) (c .before .before .before .read-list .ensures)
-
--- Where the text is made: its length lies within the buffer.
-in-out : (c : tie.After-report-text) → c .report-text .result ≤ length (c .report-text .last .1 .0)
-in-out c =
-    let m = c .before .before .before .before in
-    report-within (take (m .input .given .0 .0) (m .before .before .before .read-list .last .0)) _ (c .report-text .ensures .0) (c .report-text .ensures .1)
 
 slice-aggregate-read-list : tie.Need-slice-aggregate-read-list
 slice-aggregate-read-list c = search needs
@@ -52,10 +45,10 @@ report-text-requires : tie.Need-report-text-requires
 report-text-requires c κs = search needs
 
 array-share-prefix-out : tie.Need-array-share-prefix-out
-array-share-prefix-out c = in-out c
+array-share-prefix-out c = c .report-text .ensures .0 .0
 
 slice-aggregate-write-all-2 : tie.Need-slice-aggregate-write-all-2
-slice-aggregate-write-all-2 c = sym (length-take-le _ _ (in-out (c .before)))
+slice-aggregate-write-all-2 c = c .before .report-text .ensures .0 .1
 
 write-all-requires-2 : tie.Need-write-all-requires-2
 write-all-requires-2 c κs = search needs

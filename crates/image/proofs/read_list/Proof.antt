@@ -1,4 +1,4 @@
--- `read_list` meets its contract: what a read has put into the buffer lies behind what was there.
+-- `read_list` meets its contract: what a read has put into the buffer lies after what was there.
 -- Assumes nothing.
 use mathlib.Core.Path.{_≡_}
 use Prim.Native.Nat.{_-_, _≤_}

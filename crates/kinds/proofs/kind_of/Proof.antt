@@ -4,7 +4,7 @@ use Prim.Native.Nat.{_+_, _-_, _*_}
 use native.Mathlib.Omega.{arith}
 use lib.ListN.{take, drop}
 use borrow.Author.Needs.{needs}
-use Rattle.o32.specs.Kinds.{table}
+use Rattle.kinds.specs.Kinds.{table}
 use Rattle.kinds.proofs.Table.{single, ranged, unknown, sizes-fit}
 use Rattle.kinds.proofs.kind_of.Statement.{statement}
 use Rattle.kinds.proofs.kind_of.Tie as tie

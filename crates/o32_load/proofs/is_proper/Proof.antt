@@ -5,7 +5,7 @@ use mathlib.Core.Path.{sym}
 use borrow.Author.Tests.{not-true, not-false}
 use native.Mathlib.Omega.{arith}
 use denote.Ref.{now}
-use Rattle.o32_store.proofs.Arguments.{Worded, signed-kind, unsigned-kind, plain-kind, body-fits}
+use Rattle.o32_laws.proofs.Fitting.{Worded, signed-kind, unsigned-kind, plain-kind, body-fits}
 use Rattle.o32_load.proofs.Bodies.{word-inside, plain-proper, word-proper}
 use borrow.Author.Needs.{needs}
 use Rattle.o32_load.proofs.is_proper.Statement.{statement}

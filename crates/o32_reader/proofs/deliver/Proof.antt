@@ -1,7 +1,7 @@
 -- `deliver` meets its contract: the buffer as it was where a word is improper, else with the list.
 -- Assumes nothing.
 use borrow.Author.Needs.{needs}
-use Rattle.o32_reader.proofs.Passes.{keeps, delivers}
+use Rattle.passes.proofs.Reading.{improper-keeps, proper-delivers}
 use Rattle.o32_reader.proofs.deliver.Statement.{statement}
 use Rattle.o32_reader.proofs.deliver.Tie as tie
 
@@ -15,7 +15,7 @@ enum-told-2 : tie.Need-enum-told-2
 enum-told-2 c = search needs
 
 returns : tie.Need-returns
-returns c = keeps _ _ _ (c .before .before .check .ensures) (c .enum-told2 .given .1)
+returns c = improper-keeps _ _ (c .before .before .check .ensures) _ _ (c .enum-told2 .given .1)
 
 copy-list-requires : tie.Need-copy-list-requires
 copy-list-requires c κs = search needs
@@ -24,7 +24,7 @@ same-length : tie.Need-same-length
 same-length c = search needs
 
 returns-2 : tie.Need-returns-2
-returns-2 c = delivers _ _ _ (c .before .before .before .before .before .before .check .ensures) (c .before .before .before .before .enum-told .given .1) (c .before .before .copy-list .ensures)
+returns-2 c = proper-delivers _ _ (c .before .before .before .before .before .before .check .ensures) _ _ (c .before .before .before .before .enum-told .given .1) (c .before .before .copy-list .ensures)
 
 pub deliver-spec : {M : Type 1} → statement M
 deliver-spec =

@@ -1,7 +1,7 @@
 -- `float_register` meets its contract: each return is a case of rule 3.
 -- Assumes nothing.
 use borrow.Author.Tests.{not-true, not-false}
-use Rattle.o32_step.proofs.Answers.{register-first, register-late, register-behind, register-marked, register-second}
+use Rattle.o32_step.proofs.Returns.{register-first, register-late, register-after, register-marked, register-second}
 use borrow.Author.Needs.{needs}
 use Rattle.o32_step.proofs.float_register.Statement.{statement}
 use Rattle.o32_step.proofs.float_register.Tie as tie
@@ -22,7 +22,7 @@ returns-3 : tie.Need-returns-3
 returns-3 c = search (register-late, needs)
 
 returns-4 : tie.Need-returns-4
-returns-4 c = search (register-behind, not-true, needs)
+returns-4 c = search (register-after, not-true, needs)
 
 returns-5 : tie.Need-returns-5
 returns-5 c = search (register-marked, not-false, needs)

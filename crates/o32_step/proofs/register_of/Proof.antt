@@ -1,6 +1,6 @@
 -- `register_of` meets its contract: only a float asks rule 3.
 -- Assumes nothing.
-use Rattle.o32_step.proofs.Answers.{register-float, register-plain}
+use Rattle.o32_step.proofs.Returns.{register-float, register-plain}
 use borrow.Author.Needs.{needs}
 use Rattle.o32_step.proofs.register_of.Statement.{statement}
 use Rattle.o32_step.proofs.register_of.Tie as tie

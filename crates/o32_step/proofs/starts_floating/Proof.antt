@@ -13,7 +13,7 @@ returns : tie.Need-returns
 returns c = c .is-class .ensures ∙ rw (c .before .if1 .taken)
 
 returns-2 : tie.Need-returns-2
-returns-2 c = rw (ne-eqb (c .before .before .args .st .count) 0 (c .if1 .left))
+returns-2 c = rw (ne-eqb (c .before .before .before .args .st .prefix .count) 0 (c .if1 .left))
 
 pub starts-floating-spec : {M : Type 1} → statement M
 starts-floating-spec = tie.close (tie.spec is-class-requires returns returns-2)

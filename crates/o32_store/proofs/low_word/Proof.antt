@@ -4,7 +4,7 @@ use mathlib.Core.Path.{refl, sym, _∙_}
 use Prim.Native.Nat.{_+_, _-_}
 use native.Mathlib.Omega.{arith}
 use denote.Ref.{now}
-use Rattle.o32_store.proofs.Low.{none-before, none-behind, those-left, all-four, word-whole}
+use Rattle.o32_store.proofs.Low.{none-before, none-after, those-left, all-four, word-whole}
 use borrow.Author.Needs.{needs}
 use Rattle.o32_store.proofs.low_word.Statement.{statement}
 use Rattle.o32_store.proofs.low_word.Tie as tie
@@ -17,7 +17,7 @@ returns c =
 returns-2 : tie.Need-returns-2
 returns-2 c =
     let a = c .before .before .before .args in
-    rw (none-behind (a .o) (a .n) (a .p) (omega arith) (omega arith)) refl
+    rw (none-after (a .o) (a .n) (a .p) (omega arith) (omega arith)) refl
 
 sub-left : tie.Need-sub-left
 sub-left c = search needs

@@ -6,7 +6,8 @@ use native.Mathlib.Omega.{arith}
 use denote.Ref.{now}
 use lib.ListN.{length, take, drop}
 use Rattle.o32_store.proofs.Floats.{float-whole}
-use Rattle.o32_store.proofs.Arguments.{Worded, Plain, signed-kind, unsigned-kind, plain-kind, body-fits, word-fits, plain-fits, word-argument, plain-argument, float-argument}
+use Rattle.o32_laws.proofs.Fitting.{Worded, Plain, signed-kind, unsigned-kind, plain-kind, body-fits, word-fits, plain-fits}
+use Rattle.o32_store.proofs.Arguments.{word-argument, plain-argument, float-argument}
 use borrow.Author.Needs.{needs}
 use Rattle.o32_store.proofs.put_argument.Statement.{statement}
 use Rattle.o32_store.proofs.put_argument.Tie as tie

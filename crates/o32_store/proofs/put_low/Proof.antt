@@ -5,9 +5,9 @@ use Prim.Native.Nat.{ℕ, _+_, _-_, _*_, _≤_, min}
 use native.Mathlib.Omega.{arith}
 use denote.Ref.{now}
 use lib.ListN.{length, take, drop, length-set}
-use Rattle.carried.specs.Image.{put}
-use Rattle.o32.specs.O32.{run}
-use Rattle.o32_store.specs.Block.{blockBytes, bytesInWord}
+use Rattle.places.specs.Places.{put, run}
+use Rattle.words.specs.Words.{bytesOfWords}
+use Rattle.o32_store.specs.Block.{bytesInWord}
 use Rattle.o32_store.proofs.Image.{word-start}
 use Rattle.o32_store.proofs.Low.{at-most-four, low-next}
 use borrow.Author.Needs.{needs}
@@ -15,7 +15,7 @@ use Rattle.o32_store.proofs.put_low.Statement.{statement}
 use Rattle.o32_store.proofs.put_low.Tie as tie
 
 abbrev Inv-loop : tie.InvT-loop
-Inv-loop o src at n next₀ k₀ next k = (k ≤ 4) × (length next ≡ 8) × (blockBytes next ≡ put (blockBytes next₀) (run o (min n (4 * k - o))) (take (min n (4 * k - o)) (drop at src)))
+Inv-loop o src at n next₀ k₀ next k = (k ≤ 4) × (length next ≡ 8) × (bytesOfWords next ≡ put (bytesOfWords next₀) (run o (min n (4 * k - o))) (take (min n (4 * k - o)) (drop at src)))
 
 abbrev μ-loop : tie.MeasureT-loop
 μ-loop o src at n next₀ k₀ next k = 4 - k
@@ -60,7 +60,7 @@ loop-again c =
       simp length-set (l .inv .1),
       word-start (l .next) (l .k) (c .low-word .result) m (take m (drop (a .at + (4 * l .k - a .o)) (now (a .src)))) (omega arith)
           (at-most-four (a .o) (a .n) (4 * l .k)) (c .low-word .ensures)
-          ∙ rw (l .inv .2) (low-next (blockBytes (a .block)) (now (a .src)) (a .o) (a .at) (a .n) (l .k) (s .pre .0) (s .pre .1 .1)),
+          ∙ rw (l .inv .2) (low-next (bytesOfWords (a .block)) (now (a .src)) (a .o) (a .at) (a .n) (l .k) (s .pre .0) (s .pre .1 .1)),
     )
 
 returns : tie.Need-returns Inv-loop μ-loop
@@ -68,7 +68,7 @@ returns c =
     let a = c .before .before .before .args in
     let l = c .before .loop in
     let e : min (a .n) (4 * l .k - a .o) ≡ a .n = omega (arith, c .before .before .before .pre) in
-    l .inv .2 ∙ ap (λ (m : ℕ). put (blockBytes (a .block)) (run (a .o) m) (take m (drop (a .at) (now (a .src))))) e
+    l .inv .2 ∙ ap (λ (m : ℕ). put (bytesOfWords (a .block)) (run (a .o) m) (take m (drop (a .at) (now (a .src))))) e
 
 pub put-low-spec : {M : Type 1} → statement M
 put-low-spec =

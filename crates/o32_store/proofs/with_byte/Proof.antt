@@ -1,4 +1,4 @@
--- `o32_store::with_byte` meets its contract: each arm replaces the byte that has so many bytes behind it.
+-- `o32_store::with_byte` meets its contract: each arm replaces the byte that has so many bytes after it.
 -- Assumes nothing.
 use native.Mathlib.Omega.{arith}
 use Rattle.o32_store.proofs.WordBytes.{byte-replaced}

@@ -1,4 +1,4 @@
--- `o32_store::with_start` meets its contract: the bytes are replaced one behind the other, from the last to the first.
+-- `o32_store::with_start` meets its contract: the bytes are replaced one after the other, from the last to the first.
 -- Assumes nothing.
 use mathlib.Core.Path.{ap, _∙_}
 use mathlib.Core.Logic.{inl, inr, ⊎-elim}

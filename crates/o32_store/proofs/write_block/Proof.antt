@@ -7,13 +7,13 @@ use native.Mathlib.Omega.{arith}
 use denote.Ref.{now}
 use lib.ListN.{length, take, drop}
 use lib.Seq.{take-all}
-use Rattle.o32_store.specs.Block.{blockBytes}
+use Rattle.words.specs.Words.{bytesOfWords}
 use Rattle.o32_store.proofs.Image.{word-next}
 use Rattle.o32_store.proofs.write_block.Statement.{statement}
 use Rattle.o32_store.proofs.write_block.Tie as tie
 
 abbrev Inv-loop : tie.InvT-loop
-Inv-loop out₀ block i₀ out i = (i ≤ 8) × (length out ≡ length out₀) × (out ≡ blockBytes (take i block) ++ drop (i * 4) out₀)
+Inv-loop out₀ block i₀ out i = (i ≤ 8) × (length out ≡ length out₀) × (out ≡ bytesOfWords (take i block) ++ drop (i * 4) out₀)
 
 abbrev μ-loop : tie.MeasureT-loop
 μ-loop out₀ block i₀ out i = 8 - i

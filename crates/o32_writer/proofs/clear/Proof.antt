@@ -1,4 +1,4 @@
--- `clear` meets its contract: the bytes before i are zero, those behind as they were.
+-- `clear` meets its contract: the bytes before i are zero, those after as they were.
 -- Assumes nothing.
 use Prim.Native.Nat.{_-_}
 use native.Mathlib.Omega.{arith}

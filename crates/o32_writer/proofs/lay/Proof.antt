@@ -18,7 +18,9 @@ same-length : tie.Need-same-length
 same-length c = search needs
 
 returns : tie.Need-returns
-returns c = laid _ _ _ _ (c .before .before .before .before .before .before .before .before .before .before .before .before .before .before .pre .0) _ _ _ (c .before .before .before .before .before .before .before .before .before .before .clear .ensures) (c .before .before .before .before .before .before .fill .ensures) (c .before .before .write-block .ensures)
+returns c =
+    let s = c .before .before .before .before .before .before .before .before .before .before .before .before .before .before in
+    laid (s .args .device) (s .args .list .now) (s .args .out .now) (s .args .n) (s .pre .0) _ _ _ (c .before .before .before .before .before .before .before .before .before .before .clear .ensures) (c .before .before .before .before .before .before .fill .ensures) (c .before .before .write-block .ensures)
 
 pub lay-spec : {M : Type 1} → statement M
 lay-spec = tie.close (tie.spec clear-requires fill-requires write-block-requires same-length returns)

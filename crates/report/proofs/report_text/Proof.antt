@@ -1,19 +1,19 @@
 -- `report_text` meets its contract: the writer's answer says which text it is, and the text fits.
 -- Assumes nothing.
-use mathlib.Core.Path.{_≡_, refl, sym}
+use mathlib.Core.Path.{sym}
 use Prim.Native.Nat.{_≤_}
 use native.Mathlib.Omega.{arith}
 use lib.ListN.{length, replicate}
 use lib.Seq.{length-take-le}
 use denote.Ref.{now}
 use borrow.Author.Needs.{needs}
-use Rattle.report.proofs.Fits.{put-whole, inside, of-refusal, of-image}
+use Rattle.report.proofs.Fits.{report-stored, image-inside, refusal-reported, image-reported}
 use Rattle.report.proofs.report_text.Statement.{statement}
 use Rattle.report.proofs.report_text.Tie as tie
 
 -- Where the writer has answered: its length lies within the buffer that it left.
 in-image : (c : tie.After-write) → c .write .result .length ≤ length (c .write .last .1 .1 .0)
-in-image c = omega (arith, inside (now (c .before .before .before .args .list)) (c .write .result) (c .write .ensures .0), c .write .kept .1 .1 .0)
+in-image c = omega (arith, image-inside (now (c .before .before .before .args .list)) (c .write .result) (c .write .ensures .0), c .write .kept .1 .1 .0)
 
 slice-aggregate-write : tie.Need-slice-aggregate-write
 slice-aggregate-write c = search needs
@@ -28,7 +28,7 @@ returns : tie.Need-returns
 returns c =
     let s = c .before .before .before .before .before .before .before in
     let w = c .before .before .before .before in
-    put-whole (now (s .args .list)) _ (now (s .args .out)) (omega (arith, s .good)) (of-refusal (now (s .args .list)) (w .write .result) (w .write .ensures .0) (λ e. omega arith)) (c .refusal-text .ensures .0) (c .refusal-text .ensures .1)
+    report-stored (now (s .args .list)) _ (now (s .args .out)) (omega (arith, s .good)) (refusal-reported (now (s .args .list)) (w .write .result) (w .write .ensures .0) (λ e. omega arith)) (c .refusal-text .ensures .0) (c .refusal-text .ensures .1)
 
 array-share-prefix-image : tie.Need-array-share-prefix-image
 array-share-prefix-image c = in-image (c .before .before)
@@ -43,7 +43,7 @@ returns-2 : tie.Need-returns-2
 returns-2 c =
     let s = c .before .before .before .before .before .before .before .before in
     let w = c .before .before .before .before .before in
-    put-whole (now (s .args .list)) _ (now (s .args .out)) (omega (arith, s .good)) (of-image (now (s .args .list)) (w .write .result) (w .write .ensures .0) (replicate 1056 0) (w .write .ensures .1) (omega arith)) (c .image-text .ensures .0) (c .image-text .ensures .1)
+    report-stored (now (s .args .list)) _ (now (s .args .out)) (omega (arith, s .good)) (image-reported (now (s .args .list)) (w .write .result) (w .write .ensures .0) (replicate 1056 0) (w .write .ensures .1) (omega arith)) (c .image-text .ensures .0) (c .image-text .ensures .1)
 
 pub report-text-spec : {M : Type 1} → statement M
 report-text-spec =

@@ -8,12 +8,12 @@ use native.Mathlib.Numerals.{add-one}
 use lib.ListN.{length}
 use denote.Ref.{now}
 use Rattle.text.specs.Text.{lines, imageText}
-use Rattle.text.proofs.Written.{over, over-step, lines-length, when-short, when-fits}
+use Rattle.text.proofs.Written.{overlay, paste-overlay-step, lines-length, short-stored, fitting-stored}
 use Rattle.text.proofs.image_text.Statement.{statement}
 use Rattle.text.proofs.image_text.Tie as tie
 
 abbrev Inv-loop : tie.InvT-loop
-Inv-loop image out₀ words i₀ out i = (i ≤ words) × (out ≡ over (lines image i) out₀) × (length out ≡ length out₀)
+Inv-loop image out₀ words i₀ out i = (i ≤ words) × (out ≡ overlay (lines image i) out₀) × (length out ≡ length out₀)
 
 abbrev μ-loop : tie.MeasureT-loop
 μ-loop image out₀ words i₀ out i = words - i
@@ -22,7 +22,7 @@ returns : tie.Need-returns Inv-loop μ-loop
 returns c =
     let image : List ℕ = now (c .before .before .before .args .image) in
     let out : List ℕ = now (c .before .before .before .args .out) in
-    when-short (imageText image) out (omega (arith, lines-length image (length image / 4)))
+    short-stored (imageText image) out (omega (arith, lines-length image (length image / 4)))
 
 loop-holds : tie.Need-loop-holds Inv-loop μ-loop
 loop-holds c = (omega arith, refl, refl)
@@ -56,9 +56,9 @@ loop-again c =
     let i : ℕ = c .before .before .before .before .before .before .before .loop .i in
     let line = c .before .before .before .before .before .line in (
       omega arith,
-      over-step out (lines image i) (line .result) (c .before .before .before .before .before .before .before .loop .inv .1) (sym (lines-length image i)) (c .before .before .put .ensures .1)
-          ∙ ap (λ (m : List ℕ). over (lines image i ++ m) out) (line .ensures)
-          ∙ ap (λ (k : ℕ). over (lines image k) out) (sym (add-one i)),
+      paste-overlay-step out (lines image i) (line .result) (c .before .before .before .before .before .before .before .loop .inv .1) (sym (lines-length image i)) (c .before .before .put .ensures .1)
+          ∙ ap (λ (m : List ℕ). overlay (lines image i ++ m) out) (line .ensures)
+          ∙ ap (λ (k : ℕ). overlay (lines image k) out) (sym (add-one i)),
       c .before .before .put .kept .1 .0 ∙ c .before .before .before .before .before .before .before .loop .inv .2,
     )
 
@@ -74,7 +74,7 @@ returns-2 c =
     let out : List ℕ = now (c .before .before .before .before .before .args .out) in
     let l : length (imageText image) ≡ 9 * (length image / 4) = lines-length image (length image / 4) in
     let e : c .before .loop .i ≡ length image / 4 = omega arith in
-    when-fits (imageText image) out (omega arith) (sym l) (c .before .loop .inv .1 ∙ ap (λ (k : ℕ). over (lines image k) out) e)
+    fitting-stored (imageText image) out (omega arith) (sym l) (c .before .loop .inv .1 ∙ ap (λ (k : ℕ). overlay (lines image k) out) e)
 
 pub image-text-spec : {M : Type 1} → statement M
 image-text-spec =

@@ -1,17 +1,19 @@
--- `put_number` meets its contract: `put` lays the text, and then the digits behind it.
+-- `put_number` meets its contract: `put` lays the text, and then the digits after it.
 -- Assumes nothing.
-use Prim.Native.Nat.{_≤_}
+use mathlib.Core.Path.{ap, _∙_}
+use mathlib.Core.List.{List, _++_}
+use Prim.Native.Nat.{ℕ, _≤_}
 use native.Mathlib.Omega.{arith}
 use lib.ListN.{take}
 use denote.Ref.{now}
 use borrow.Author.Needs.{needs}
-use Rattle.text.proofs.Decimal.{decimal-is, twenty}
+use Rattle.text.proofs.Decimal.{fewest-decimal, digits-at-most-20}
 use Rattle.text.proofs.Written.{take-put}
 use Rattle.text.proofs.put_number.Statement.{statement}
 use Rattle.text.proofs.put_number.Tie as tie
 
 few-digits : (c : tie.After-decimal) → c .decimal .result ≤ 20
-few-digits c = twenty (c .before .before .before .before .args .number) (c .decimal .result) (omega arith) (c .decimal .ensures .1 .0)
+few-digits c = digits-at-most-20 (c .before .before .before .before .args .number) (c .decimal .result) (omega arith) (c .decimal .ensures .1 .0)
 
 decimal-requires : tie.Need-decimal-requires
 decimal-requires c κs = search needs
@@ -34,14 +36,14 @@ same-length c = search needs
 returns : tie.Need-returns
 returns c =
     let first = c .before .before .before .before .before .before .before .put in
+    let second = c .before .before .put2 in
     let decimal = c .before .before .before .before .before .before .before .before .before .decimal in
-    let s = c .before .before .before .before .before .before .before .before .before .before .before .before .before in (
+    let s = c .before .before .before .before .before .before .before .before .before .before .before .before .before .args in
+    let digits : List ℕ = take (decimal .result) (decimal .last .1 .0) in (
       omega (arith, few-digits (c .before .before .before .before .before .before .before .before .before)),
-      cc (
-        take-put (now (s .args .text)) (now (s .args .out)) (omega arith) (first .ensures .1) (first .ensures .0),
-        take-put (take (decimal .result) (decimal .last .1 .0)) (first .last .1 .0) (omega arith) (c .before .before .put2 .ensures .1) (c .before .before .put2 .ensures .0),
-        decimal-is (s .args .number) (decimal .result) (decimal .ensures .1 .0),
-      ),
+      take-put digits (first .last .1 .0) (omega arith) (second .ensures .1) (second .ensures .0)
+          ∙ ap (λ (l : List ℕ). l ++ digits) (take-put (now (s .text)) (now (s .out)) (omega arith) (first .ensures .1) (first .ensures .0))
+          ∙ ap (λ (l : List ℕ). take (s .at) (now (s .out)) ++ now (s .text) ++ l) (decimal .ensures .1 .1 ∙ fewest-decimal (s .number) (decimal .result) (decimal .ensures .1 .0)),
     )
 
 pub put-number-spec : {M : Type 1} → statement M

@@ -1,6 +1,6 @@
 -- `words::is_promoted_byte` meets its contract: it tells whether a word is the proper promotion of a byte.
 -- Assumes nothing.
-use mir.Syntax.{w8}
+use mir.Syntax.{w32, w8}
 use borrow.Author.Needs.{needs}
 use Rattle.words.proofs.Promotion.{promoted-test}
 use Rattle.words.proofs.is_promoted_byte.Statement.{statement}
@@ -14,7 +14,7 @@ promote-byte-requires c κs = search needs
 
 returns : tie.Need-returns
 returns c =
-    promoted-test w8 (c .before .args .signed) (c .before .args .w) (c .promote-byte .result) tt (c .before .fits .w .fits) (c .promote-byte .ok) (c .promote-byte .ensures)
+    promoted-test w8 w32 (c .before .args .signed) (c .before .args .w) (c .promote-byte .result) tt (c .before .fits .w .fits) (c .promote-byte .ok) (c .promote-byte .ensures)
 
 pub is-promoted-byte-spec : {M : Type 1} → statement M
 is-promoted-byte-spec = tie.close (tie.spec cast-promote-byte promote-byte-requires returns)

@@ -3,7 +3,7 @@
 use mir.Syntax.{w16, w32}
 use borrow.Author.Needs.{needs}
 use Rattle.words.proofs.Sign.{widened}
-use Rattle.words.proofs.Promotion.{signed-word, unsigned-word}
+use Rattle.words.proofs.Promotion.{signed-extended, unsigned-extended}
 use Rattle.words.proofs.promote_halfword.Statement.{statement}
 use Rattle.words.proofs.promote_halfword.Tie as tie
 
@@ -18,10 +18,10 @@ word-bits-requires c κs = search needs
 
 returns : tie.Need-returns
 returns c =
-    signed-word w16 _ _ _ _ tt (c .before .before .before .fits .h) (c .before .before .if1 .taken) (record { sfits = c .before .signed-halfword .ok }) (c .before .signed-halfword .ensures) (c .word-bits .ensures)
+    signed-extended w16 w32 _ _ _ _ tt (c .before .before .before .fits .h) (c .before .before .if1 .taken) (record { sfits = c .before .signed-halfword .ok }) (c .before .signed-halfword .ensures) (c .word-bits .ensures)
 
 returns-2 : tie.Need-returns-2
-returns-2 c = unsigned-word w16 _ _ tt (c .before .fits .h) (c .if1 .left)
+returns-2 c = unsigned-extended w16 w32 _ _ tt (c .before .fits .h) (c .if1 .left)
 
 pub promote-halfword-spec : {M : Type 1} → statement M
 promote-halfword-spec = tie.close (tie.spec signed-halfword-requires cast-word-bits word-bits-requires returns returns-2)
