@@ -104,22 +104,20 @@ abbrev Late : Outcome → Type 0
 Late (refused r at j) = (r ≡ 6) ⊎ (r ≡ 7) ⊎ (r ≡ 8)
 Late (done x) = Unit {0}
 
-late-cond : (t : Bool) (a b : Outcome) → Late a → Late b → Late (cond t a b)
-late-cond true a b h w = h
-late-cond false a b h w = w
+-- what holds of two outcomes holds of the one that a test chooses
+pub of-either : (P : Outcome → Type 0) (t : Bool) {a b : Outcome} → P a → P b → P (cond t a b)
+of-either P true h w = h
+of-either P false h w = w
 
 checked-late : (L : List Placed) (img : List ℕ) (at : ℕ) (x : List ℕ) → Late (checked 8 at L img (done x))
 checked-late [] img at x = tt
 checked-late (s ∷ L) img at x =
-    late-cond (proper (s .extension) (s .size) (gather img (s .carriers))) (checked 8 (suc at) L img (done x)) (refused 8 at (s .argument))
-    (checked-late L img (suc at) x) (inr (inr refl))
+    of-either Late (proper (s .extension) (s .size) (gather img (s .carriers))) (checked-late L img (suc at) x) (inr (inr refl))
 
 module _ (c : Convention) (img : List ℕ) (room : ℕ) where
   read-late : (L : List Placed) (st : c .State) → Late (readPlan c (checkRoom 7 room) img (complete L st))
   read-late L st =
-      late-cond (eqb (length img) (c .imageLength st)) (cond (ltb room (length (reading L img))) (refused 7 0 0) (checked 8 0 L img (done (reading L img)))) (refused 6 0 0)
-      (late-cond (ltb room (length (reading L img))) (refused 7 0 0) (checked 8 0 L img (done (reading L img))) (inr (inl refl)) (checked-late L img 0 (reading L img)))
-      (inl refl)
+      of-either Late (eqb (length img) (c .imageLength st)) (of-either Late (ltb room (length (reading L img))) (inr (inl refl)) (checked-late L img 0 (reading L img))) (inl refl)
 
   pub past-signature : (L : List Placed) (st : c .State) → PastSignature (answerOf (readPlan c (checkRoom 7 room) img (complete L st)) .refusal)
   past-signature L st = go (readPlan c (checkRoom 7 room) img (complete L st)) (read-late L st)

@@ -11,7 +11,7 @@ use lib.Dec.{eqb, ltb}
 use borrow.Author.Tests.{eqb-true, eqb-false, eq-eqb, ne-eqb, ltb-true, ltb-false, lt-ltb, le-ltb}
 use Rattle.answers.specs.Outcomes.{Outcome, done, refused, answerOf, checkRoom}
 use Rattle.carried.specs.Image.{checked, reading, Placed, image, listLength}
-use Rattle.carried.specs.Convention.{Convention, Plan, stopped, complete, plan, writePlan, readPlan, writeInto, readInto}
+use Rattle.carried.specs.Convention.{Convention, Plan, stopped, complete, plan, writePlan, checkImage, readPlan, writeInto, readInto}
 use Rattle.carried.proofs.Walks.{Laws, walk-of, walk-one-each}
 use Rattle.carried.proofs.Readings.{image-length, reading-length}
 use Rattle.carried.proofs.Refusals.{ImproperAt, checked-refuses}
@@ -56,19 +56,48 @@ module _ (c : Convention) where
           lt-ltb room (length (image (c .imageLength last) L list)) (omega (arith, image-length (c .imageLength last) L list)) in
           rw (f, i, x, y, z)
 
+  -- ---- an image of these records, for which n bytes are answered: 6, 7, 8
+
+  module _ (L : List Placed) (last : c .State) (img : List ℕ) (n room r place j : ℕ) where
+    pub data ImageRefused : Type 0 where
+      six : (length img ≡ c .imageLength last → ⊥) → r ≡ 6 → place ≡ 0 → j ≡ 0 → ImageRefused
+      seven : length img ≡ c .imageLength last → room < n → r ≡ 7 → place ≡ 0 → j ≡ 0 → ImageRefused
+      eight : length img ≡ c .imageLength last → n ≤ room → r ≡ 8 → ImproperAt img L place j → ImageRefused
+
+    -- the bytes are n where the image has its length
+    pub image-refused : (x : List ℕ) → (length img ≡ c .imageLength last → length x ≡ n)
+        → (checkImage c (checkRoom 7 room) img L last x ≡ refused r place j) ↔ ImageRefused
+    image-refused x long = (tests (eqb (length img) (c .imageLength last)) (ltb room (length x)) refl refl, back)
+      where
+        tests : (t u : Bool) → eqb (length img) (c .imageLength last) ≡ t → ltb room (length x) ≡ u
+            → cond t (cond u (refused 7 0 0) (checked 8 0 L img (done x))) (refused 6 0 0) ≡ refused r place j → ImageRefused
+        tests false u g i h = six (eqb-false (length img) (c .imageLength last) g) (cc) (cc) (cc)
+        tests true true g i h =
+            let e = eqb-true (length img) (c .imageLength last) g in
+            seven e (omega (arith, ltb-true room (length x) i, long e)) (cc) (cc) (cc)
+        tests true false g i h =
+            let e = eqb-true (length img) (c .imageLength last) g in
+            let w = checked-refuses img L x r place j .0 h in
+            eight e (omega (arith, ltb-false room (length x) i, long e)) (w .0) (w .1)
+
+        back : ImageRefused → checkImage c (checkRoom 7 room) img L last x ≡ refused r place j
+        back (six h y z v) = rw (ne-eqb (length img) (c .imageLength last) h, y, z, v)
+        back (seven e h y z v) = rw (eq-eqb (length img) (c .imageLength last) e, lt-ltb room (length x) (omega (arith, long e)), y, z, v)
+        back (eight e h y w) =
+            rw (eq-eqb (length img) (c .imageLength last) e, le-ltb room (length x) (omega (arith, long e))) (checked-refuses img L x r place j .1 (y, w))
+
   -- ---- the reader
 
   pub data ReadRefused (sig img : List ℕ) (room r place j : ℕ) : Type 0 where
     by-record : plan c false sig ≡ stopped r place j → ReadRefused sig img room r place j
-    six : (L : List Placed) (last : c .State) → plan c false sig ≡ complete L last → (length img ≡ c .imageLength last → ⊥) → r ≡ 6 → place ≡ 0 → j ≡ 0 → ReadRefused sig img room r place j
-    seven : (L : List Placed) (last : c .State) → plan c false sig ≡ complete L last → length img ≡ c .imageLength last → room < listLength L → r ≡ 7 → place ≡ 0 → j ≡ 0
-        → ReadRefused sig img room r place j
-    eight : (L : List Placed) (last : c .State) → plan c false sig ≡ complete L last → length img ≡ c .imageLength last → listLength L ≤ room → r ≡ 8 → ImproperAt img L place j
-        → ReadRefused sig img room r place j
+    by-image : (L : List Placed) (last : c .State) → plan c false sig ≡ complete L last → ImageRefused L last img (listLength L) room r place j → ReadRefused sig img room r place j
 
   module _ (laws : Laws c) (sig img : List ℕ) (room r place j : ℕ) where
-    long : (L : List Placed) (last : c .State) → plan c false sig ≡ complete L last → length (reading L img) ≡ listLength L
-    long L last f = reading-length L img (walk-one-each c laws (walk-of c laws sig (c .start) L last 0 f) .sized)
+    exactly : (L : List Placed) (last : c .State) → plan c false sig ≡ complete L last
+        → (checkImage c (checkRoom 7 room) img L last (reading L img) ≡ refused r place j) ↔ ImageRefused L last img (listLength L) room r place j
+    exactly L last f =
+        image-refused L last img (listLength L) room r place j (reading L img)
+        (λ e. reading-length L img (walk-one-each c laws (walk-of c laws sig (c .start) L last 0 f) .sized))
 
     there : (q : Plan (c .State)) → plan c false sig ≡ q → readPlan c (checkRoom 7 room) img q ≡ refused r place j → ReadRefused sig img room r place j
     there (stopped r′ place′ j′) f e =
@@ -76,26 +105,11 @@ module _ (c : Convention) where
         let y : place′ ≡ place = cc in
         let z : j′ ≡ j = cc in
         by-record (f ∙ rw (x, y, z) refl)
-    there (complete L last) f e = tests (eqb (length img) (c .imageLength last)) (ltb room (length (reading L img))) refl refl e
-      where
-        tests : (t u : Bool) → eqb (length img) (c .imageLength last) ≡ t → ltb room (length (reading L img)) ≡ u
-            → cond t (cond u (refused 7 0 0) (checked 8 0 L img (done (reading L img)))) (refused 6 0 0) ≡ refused r place j → ReadRefused sig img room r place j
-        tests false u g i h = six L last f (eqb-false (length img) (c .imageLength last) g) (cc) (cc) (cc)
-        tests true true g i h =
-            seven L last f (eqb-true (length img) (c .imageLength last) g) (omega (arith, ltb-true room (length (reading L img)) i, long L last f)) (cc) (cc) (cc)
-        tests true false g i h =
-            let w = checked-refuses img L (reading L img) r place j .0 h in
-            eight L last f (eqb-true (length img) (c .imageLength last) g) (omega (arith, ltb-false room (length (reading L img)) i, long L last f)) (w .0) (w .1)
+    there (complete L last) f e = by-image L last f (exactly L last f .0 e)
 
     back : ReadRefused sig img room r place j → readInto c sig img room ≡ refused r place j
     back (by-record f) = rw f
-    back (six L last f h x y z) = rw (f, ne-eqb (length img) (c .imageLength last) h, x, y, z)
-    back (seven L last f e h x y z) =
-        let i : ltb room (length (reading L img)) ≡ true = lt-ltb room (length (reading L img)) (omega (arith, long L last f)) in
-        rw (f, eq-eqb (length img) (c .imageLength last) e, i, x, y, z)
-    back (eight L last f e h x w) =
-        let i : ltb room (length (reading L img)) ≡ false = le-ltb room (length (reading L img)) (omega (arith, long L last f)) in
-        rw (f, eq-eqb (length img) (c .imageLength last) e, i) (checked-refuses img L (reading L img) r place j .1 (x, w))
+    back (by-image L last f w) = rw f (exactly L last f .1 w)
 
     pub read-refused : (readInto c sig img room ≡ refused r place j) ↔ ReadRefused sig img room r place j
     read-refused = (there (plan c false sig) refl, back)

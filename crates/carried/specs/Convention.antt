@@ -77,10 +77,14 @@ module _ (c : Convention) where
   abbrev pub writePlan : (ℕ → Outcome → Outcome) → List ℕ → Plan (c .State) → Outcome
   writePlan room l q = resolve q (λ L st. room (length (image (c .imageLength st) L l)) (done (image (c .imageLength st) L l)))
 
-  -- The reader, with a check of the room for the list: refusals 1, 2, 3 and 5, then "6, 7, 8", else the reading.
+  -- "After the last: 6, 7, 8": an image of these records and this last state, with a check of the room for what is answered; else
+  -- these bytes.
+  abbrev pub checkImage : (ℕ → Outcome → Outcome) → List ℕ → List Placed → c .State → List ℕ → Outcome
+  checkImage room img L st x = cond (eqb (length img) (c .imageLength st)) (room (length x) (checked 8 0 L img (done x))) (refused 6 0 0)
+
+  -- The reader, with a check of the room for the list: refusals 1, 2, 3 and 5, then those of the image, else the reading.
   abbrev pub readPlan : (ℕ → Outcome → Outcome) → List ℕ → Plan (c .State) → Outcome
-  readPlan room img q = resolve q (λ L st.
-      cond (eqb (length img) (c .imageLength st)) (room (length (reading L img)) (checked 8 0 L img (done (reading L img)))) (refused 6 0 0))
+  readPlan room img q = resolve q (λ L st. checkImage room img L st (reading L img))
 
   -- Both where there is room for anything,
   abbrev pub write : List ℕ → Outcome

@@ -22,7 +22,7 @@ abbrev tests : Kind → Bool
 tests k =
     leb (k .size) 512
     && (eqb (k .alignment) 0 || (eqb (k .alignment) 4 || eqb (k .alignment) 8))
-    && implies (not (is Unknown k || is Marker k)) (leb 1 (k .alignment))
+    && implies (not (is Unknown k || is Marker k)) (leb 1 (k .alignment) && leb 1 (k .size))
     && implies (is Marker k) (eqb (k .size) 0 && eqb (k .alignment) 0)
     && implies (is Signed k || is Unsigned k) (leb 1 (k .size) && leb (k .size) 2)
     && implies (is Float k) (eqb (k .size) 4 || eqb (k .size) 8)
@@ -32,6 +32,7 @@ pub record Facts (k : Kind) : Type 0 where
   pub small : k .size ≤ 512
   pub alignments : (k .alignment ≡ 0) ⊎ (k .alignment ≡ 4) ⊎ (k .alignment ≡ 8)
   pub aligned : is Unknown k || is Marker k ≡ false → 1 ≤ k .alignment
+  pub sized : is Unknown k || is Marker k ≡ false → 1 ≤ k .size
   pub markers : is Marker k ≡ true → (k .size ≡ 0) × (k .alignment ≡ 0)
   pub promoted : is Signed k || is Unsigned k ≡ true → (1 ≤ k .size) × (k .size ≤ 2)
   pub floats : is Float k ≡ true → (k .size ≡ 4) ⊎ (k .size ≡ 8)
@@ -56,7 +57,7 @@ tested : (k : Kind) → T (tests k) → Facts k
 tested k t =
     let a = leb (k .size) 512 in
     let b = eqb (k .alignment) 0 || (eqb (k .alignment) 4 || eqb (k .alignment) 8) in
-    let c = implies (not (is Unknown k || is Marker k)) (leb 1 (k .alignment)) in
+    let c = implies (not (is Unknown k || is Marker k)) (leb 1 (k .alignment) && leb 1 (k .size)) in
     let d = implies (is Marker k) (eqb (k .size) 0 && eqb (k .alignment) 0) in
     let e = implies (is Signed k || is Unsigned k) (leb 1 (k .size) && leb (k .size) 2) in
     let f = implies (is Float k) (eqb (k .size) 4 || eqb (k .size) 8) in
@@ -68,7 +69,8 @@ tested k t =
       small = leb→le (k .size) 512 (and-left a b t₂);
       alignments = either (eqb (k .alignment) 0) _ (eqb→eq (k .alignment) 0)
           (either (eqb (k .alignment) 4) (eqb (k .alignment) 8) (eqb→eq (k .alignment) 4) (eqb→eq (k .alignment) 8)) (and-right a b t₂);
-      aligned = λ h. leb→le 1 (k .alignment) (implied (not (is Unknown k || is Marker k)) _ (and-right (a && b) c t₃) (rw h refl));
+      aligned = λ h. leb→le 1 (k .alignment) (and-left (leb 1 (k .alignment)) (leb 1 (k .size)) (implied (not (is Unknown k || is Marker k)) _ (and-right (a && b) c t₃) (rw h refl)));
+      sized = λ h. leb→le 1 (k .size) (and-right (leb 1 (k .alignment)) (leb 1 (k .size)) (implied (not (is Unknown k || is Marker k)) _ (and-right (a && b) c t₃) (rw h refl)));
       markers = λ h.
           let u : T (eqb (k .size) 0 && eqb (k .alignment) 0) = implied (is Marker k) _ (and-right (a && b && c) d t₄) h in
           (eqb→eq (k .size) 0 (and-left (eqb (k .size) 0) (eqb (k .alignment) 0) u), eqb→eq (k .alignment) 0 (and-right (eqb (k .size) 0) (eqb (k .alignment) 0) u));

@@ -9,13 +9,14 @@ use native.Mathlib.Omega.{arith}
 use lib.ListN.{length}
 use lib.Dec.{leb}
 use borrow.Author.Tests.{leb-true, leb-false}
+use Rattle.words.proofs.Impossible.{impossible}
 use Rattle.device.specs.declared.Device.{Device}
 use Rattle.carried.specs.Image.{Placed, reading}
 use Rattle.carried.specs.Convention.{Step, refuse, next, Plan, stopped, complete, prepend, bodyLength, taken, planFrom, plan}
 use Rattle.carried.proofs.Walks.{walk-of}
 use Rattle.carried.proofs.Wholeness.{plan-reading}
 use Rattle.carried.proofs.Plans.{by-step, by-limits, stops, Stops, by-records}
-use Rattle.kinds.specs.declared.Class.the-variants.{Unknown, Marker, Signed, Unsigned}
+use Rattle.kinds.specs.declared.Class.the-variants.{Unknown, Marker}
 use Rattle.kinds.specs.declared.Kind.{Kind}
 use Rattle.o32.specs.declared.State.{State}
 use Rattle.o32.specs.declared.Placement.{Placement}
@@ -25,7 +26,7 @@ use Rattle.rules.specs.Rules.{misplaced, full, argument}
 use Rattle.o32.specs.O32.{advance, placement, stepped, start, O32}
 use Rattle.kinds.proofs.KindFacts.{Facts, kind-facts}
 use Rattle.o32_laws.proofs.Laws.{O32-laws}
-use Rattle.o32_offsets.proofs.Offsets.{up-ge}
+use Rattle.o32_offsets.proofs.Offsets.{up-ge, body-within}
 
 -- ---- one step
 
@@ -51,11 +52,12 @@ argument-le st k = go (is Unknown k || is Marker k)
     go true = omega arith
     go false = omega arith
 
--- a marker stands at most once
-pub unmarked : (t m a b : Bool) → (t && (m || a)) || b ≡ false → t ≡ true → m ≡ false
-unmarked true true a b e f = e
-unmarked true false a b e f = refl
-unmarked false m a b e f = cc
+-- a marker that is placed has no other before it (m), and an argument (a is that there is none)
+pub marker-rightly : (t m a b : Bool) → (t && (m || a)) || b ≡ false → t ≡ true → (m ≡ false) × (a ≡ false)
+marker-rightly true true a b e f = impossible (cc)
+marker-rightly true false true b e f = impossible (cc)
+marker-rightly true false false b e f = (refl, refl)
+marker-rightly false m a b e f = impossible (cc)
 
 -- an argument that is placed is at most the 32nd
 pub not-full : (t a : Bool) → not t && a ≡ false → t ≡ false → a ≡ false
@@ -63,19 +65,12 @@ not-full true a e f = cc
 not-full false a e f = e
 
 module _ (d : Device) (st : State) (k : Kind) (s : Facts k) where
-  size-le : k .size ≤ width k
-  size-le = go (is Signed k || is Unsigned k) refl
-    where
-      go : (t : Bool) → is Signed k || is Unsigned k ≡ t → k .size ≤ cond t 4 (k .size)
-      go true e = omega (arith, s .promoted e)
-      go false e = omega arith
-
   grown : is Unknown k ≡ false → misplaced (st .prefix) k ≡ false → full (st .prefix) k ≡ false → Grown st k (argument (st .prefix) k) (placement d st k) (advance st k)
   grown u e f = go (is Marker k) refl
     where
       go : (t : Bool) → is Marker k ≡ t → Grown st k (argument (st .prefix) k) (placement d st k) (advance st k)
       go true g =
-          let m : st .prefix .marked ≡ false = unmarked (is Marker k) (st .prefix .marked) _ _ e g in
+          let m : st .prefix .marked ≡ false = marker-rightly (is Marker k) (st .prefix .marked) _ _ e g .0 in
           let z : (k .size ≡ 0) × (k .alignment ≡ 0) = s .markers g in
           record { number = argument-le st k; size = refl; more = rw (g, m) (omega arith); few = rw g (λ h. h) }
       go false g =
@@ -84,7 +79,7 @@ module _ (d : Device) (st : State) (k : Kind) (s : Facts k) where
           record {
             number = argument-le st k;
             size = refl;
-            more = rw g (omega (arith, up-ge (k .alignment) (st .end) a, up-ge 4 (width k) (omega arith), size-le));
+            more = rw g (omega (arith, up-ge (k .alignment) (st .end) a, up-ge 4 (width k) (omega arith), body-within k s));
             few = rw g (λ h. omega (arith, leb-false 32 (st .prefix .count) n));
           }
 

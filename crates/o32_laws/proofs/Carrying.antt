@@ -67,7 +67,7 @@ late-reach : (ks : List ℕ) (st : State) → Late st → Late (reach st ks)
 late-reach [] st h = h
 late-reach (k ∷ ks) st h = late-reach ks (advance st (kindOf k)) (late-on st (kindOf k) h)
 
-late-register : (st : State) → Late st → floatRegister Fpu st ≡ 0
+pub late-register : (st : State) → Late st → floatRegister Fpu st ≡ 0
 late-register st (inl n) = rw (ne-eqb (st .prefix .count) 0 (λ e. omega arith), ne-eqb (st .prefix .count) 1 (λ e. omega arith))
 late-register st (inr n) = rw (ne-eqb (st .prefix .count) 0 (λ e. omega arith), n .1, and-false (eqb (st .prefix .count) 1 && st .floating))
 

@@ -69,7 +69,7 @@ lies e k h = go (is Marker (kindOf k)) refl
         marker (marker-width (kindOf k) g (z .0)) (ap (λ (a : ℕ). up a e) (z .1) ∙ none-up e) (rw g refl)
     go false g = laid (up-ge (kindOf k .alignment) e (kind-facts k .aligned (rw (h, g) refl))) (rw g refl)
 
-end-append : (xs ys : List ℕ) (e : ℕ) → endOf e (xs ++ ys) ≡ endOf (endOf e xs) ys
+pub end-append : (xs ys : List ℕ) (e : ℕ) → endOf e (xs ++ ys) ≡ endOf (endOf e xs) ys
 end-append [] ys e = refl
 end-append (x ∷ xs) ys e = end-append xs ys (next-end e x)
 

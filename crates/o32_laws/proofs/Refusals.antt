@@ -18,17 +18,17 @@ use Rattle.o32.specs.declared.State.{State}
 use Rattle.o32.specs.O32.{O32, area, start}
 use Rattle.carried.specs.Calls.{resultOf, functionsOf}
 use Rattle.carried.proofs.CallRefusals as A
-use Rattle.carried.proofs.CallRefusals.{answer-refuses, write-refused, read-refused}
+use Rattle.carried.proofs.CallRefusals.{ImageRefused, answer-refuses, write-refused, read-refused}
 use Rattle.o32_laws.specs.Carrying.{imageBytes, listBytes}
 use Rattle.o32_laws.specs.Refusing as R
-use Rattle.o32_laws.specs.Refusing.{Accepted, WriterRefuses, ReaderRefuses, KeepsBuffer, Refusals}
+use Rattle.o32_laws.specs.Refusing.{Accepted, WriterRefuses, ImageRefuses, ReaderRefuses, KeepsBuffer, Refusals}
 use Rattle.o32_laws.proofs.Laws.{O32-laws, O32-carried}
 use Rattle.o32_laws.proofs.Refusing.{by-record, end-is, Bodied, bodied-left, bodied-list, walk-bodied, planned-accepted, PlannedAs, accepted-planned, refused-exactly, accepted-exactly}
 use Rattle.o32_laws.proofs.Improper.{improper-exactly}
 
 -- ---- what a call leaves in its buffer
 
-keeps : (a : Outcome) → ((r place j : ℕ) → a ≡ refused r place j → 1 ≤ r) → (out : List ℕ) → KeepsBuffer out (resultOf (answerOf a) (bufferOf a out))
+pub keeps : (a : Outcome) → ((r place j : ℕ) → a ≡ refused r place j → 1 ≤ r) → (out : List ℕ) → KeepsBuffer out (resultOf (answerOf a) (bufferOf a out))
 keeps (refused r at j) numbered out = record { refused = λ h. (refl, refl); accepted = λ e. absurd (omega (arith, numbered r at j refl)) }
 keeps (done x) numbered out = record { refused = λ h. absurd (omega arith); accepted = λ e. (refl, refl, drop-at x (drop (length x) out) (length x) refl) }
 
@@ -48,7 +48,7 @@ module _ (d : Device) where
   pub image-long : (sig : List ℕ) (L : List Placed) (last : State) → plan (O32 d) false sig ≡ complete L last → 32 + area (last .end) ≡ imageBytes sig
   image-long sig L last ok = walk-image (walk-of (O32 d) (O32-laws d) sig start L last 0 ok)
 
-  signature-accepted : (sig : List ℕ) (L : List Placed) (last : State) → plan (O32 d) false sig ≡ complete L last → Accepted false sig sig
+  pub signature-accepted : (sig : List ℕ) (L : List Placed) (last : State) → plan (O32 d) false sig ≡ complete L last → Accepted false sig sig
   signature-accepted sig L last ok = subst (Accepted false sig) (O32-carried d sig L last ok .signature) (planned-accepted d false sig L last ok)
 
   -- ---- the writer
@@ -69,35 +69,44 @@ module _ (d : Device) where
           let n : 32 + area (a .last .end) ≡ imageBytes ks = walk-image (walk-by-kinds (O32 d) (O32-laws d) true list (a .placed) (a .last) (a .planned)) ∙ ap imageBytes (a .kinds-are) in
           A.short (a .placed) (a .last) (a .planned) (omega (arith, n)) x y z
 
+  -- ---- an image, where n bytes are to be answered
+
+  pub image-refuses : (sig : List ℕ) (L : List Placed) (last : State) → plan (O32 d) false sig ≡ complete L last → (img : List ℕ) (n room r place j : ℕ)
+      → ImageRefused (O32 d) L last img n room r place j ↔ ImageRefuses sig img n room r place j
+  image-refuses sig L last ok img n room r place j = (there, back)
+    where
+      long : 32 + area (last .end) ≡ imageBytes sig
+      long = image-long sig L last ok
+
+      there : ImageRefused (O32 d) L last img n room r place j → ImageRefuses sig img n room r place j
+      there (A.six h x y z) = R.wrong-length (λ g. h (g ∙ sym long)) x y z
+      there (A.seven g h x y z) = R.short-buffer (g ∙ long) h x y z
+      there (A.eight g h x w) = R.improper (g ∙ long) h x (improper-exactly d sig L last ok img place j .0 w)
+
+      back : ImageRefuses sig img n room r place j → ImageRefused (O32 d) L last img n room r place j
+      back (R.wrong-length h x y z) = A.six (λ g. h (g ∙ long)) x y z
+      back (R.short-buffer g h x y z) = A.seven (g ∙ sym long) h x y z
+      back (R.improper g h x w) = A.eight (g ∙ sym long) h x (improper-exactly d sig L last ok img place j .1 w)
+
   -- ---- the reader
 
   reader-refuses : (sig img : List ℕ) (room r place j : ℕ) → (readInto (O32 d) sig img room ≡ refused r place j) ↔ ReaderRefuses sig img room r place j
   reader-refuses sig img room r place j =
       ((λ e. there (read-refused (O32 d) (O32-laws d) sig img room r place j .0 e)), λ v. read-refused (O32 d) (O32-laws d) sig img room r place j .1 (back v))
     where
+      exactly : (L : List Placed) (last : State) → plan (O32 d) false sig ≡ complete L last
+          → ImageRefused (O32 d) L last img (listLength L) room r place j ↔ ImageRefuses sig img (listBytes sig) room r place j
+      exactly L last e = rw (← list-long sig L last e) (image-refuses sig L last e img (listLength L) room r place j)
+
       there : A.ReadRefused (O32 d) sig img room r place j → ReaderRefuses sig img room r place j
       there (A.by-record e) = R.by-record (refused-exactly d false sig r place j .0 e)
-      there (A.six L last e h x y z) = R.wrong-length (signature-accepted sig L last e) (λ g. h (g ∙ sym (image-long sig L last e))) x y z
-      there (A.seven L last e g h x y z) = R.short-buffer (signature-accepted sig L last e) (g ∙ image-long sig L last e) (omega (arith, list-long sig L last e)) x y z
-      there (A.eight L last e g h x w) =
-          R.improper (signature-accepted sig L last e) (g ∙ image-long sig L last e) (omega (arith, list-long sig L last e)) x (improper-exactly d sig L last e img place j .0 w)
-
-      planned : Accepted false sig sig → PlannedAs d false sig sig
-      planned v = accepted-planned d false sig sig v
-
-      long : (v : Accepted false sig sig) → listLength (planned v .placed) ≡ listBytes sig
-      long v = list-long sig (planned v .placed) (planned v .last) (planned v .planned)
-
-      whole : (v : Accepted false sig sig) → 32 + area (planned v .last .end) ≡ imageBytes sig
-      whole v = image-long sig (planned v .placed) (planned v .last) (planned v .planned)
+      there (A.by-image L last e w) = R.by-image (signature-accepted sig L last e) (exactly L last e .0 w)
 
       back : ReaderRefuses sig img room r place j → A.ReadRefused (O32 d) sig img room r place j
       back (R.by-record v) = A.by-record (refused-exactly d false sig r place j .1 v)
-      back (R.wrong-length v h x y z) = A.six (planned v .placed) (planned v .last) (planned v .planned) (λ g. h (g ∙ whole v)) x y z
-      back (R.short-buffer v g h x y z) = A.seven (planned v .placed) (planned v .last) (planned v .planned) (g ∙ sym (whole v)) (omega (arith, long v)) x y z
-      back (R.improper v g h x w) =
-          A.eight (planned v .placed) (planned v .last) (planned v .planned) (g ∙ sym (whole v)) (omega (arith, long v)) x
-          (improper-exactly d sig (planned v .placed) (planned v .last) (planned v .planned) img place j .1 w)
+      back (R.by-image v w) =
+          let a = accepted-planned d false sig sig v in
+          A.by-image (a .placed) (a .last) (a .planned) (exactly (a .placed) (a .last) (a .planned) .1 w)
 
   -- ---- what they answer
 
@@ -106,14 +115,17 @@ module _ (d : Device) where
   writer-numbered (R.by-record v) = by-record (v .holds) .0
   writer-numbered (R.short-buffer ks a h x y z) = omega arith
 
+  pub image-numbered : {sig img : List ℕ} {n room r place j : ℕ} → ImageRefuses sig img n room r place j → 1 ≤ r
+  image-numbered (R.wrong-length h x y z) = omega arith
+  image-numbered (R.short-buffer g h x y z) = omega arith
+  image-numbered (R.improper g h x w) = omega arith
+
   reader-numbered : {sig img : List ℕ} {room r place j : ℕ} → ReaderRefuses sig img room r place j → 1 ≤ r
   reader-numbered (R.by-record v) = by-record (v .holds) .0
-  reader-numbered (R.wrong-length a h x y z) = omega arith
-  reader-numbered (R.short-buffer a g h x y z) = omega arith
-  reader-numbered (R.improper a g h x w) = omega arith
+  reader-numbered (R.by-image v w) = image-numbered w
 
   -- an answer is no refusal exactly when there is none
-  accepts : (a : Outcome) (P : ℕ → ℕ → ℕ → Type 0) → ((r place j : ℕ) → (a ≡ refused r place j) ↔ P r place j) → ((r place j : ℕ) → P r place j → 1 ≤ r)
+  pub accepts : (a : Outcome) (P : ℕ → ℕ → ℕ → Type 0) → ((r place j : ℕ) → (a ≡ refused r place j) ↔ P r place j) → ((r place j : ℕ) → P r place j → 1 ≤ r)
       → (answerOf a .refusal ≡ 0) ↔ ((r place j : ℕ) → P r place j → ⊥)
   accepts a P same numbered = (
     (λ e r place j v. let f : answerOf a .refusal ≡ r = ap (λ (x : Outcome). answerOf x .refusal) (same r place j .1 v) in omega (arith, numbered r place j v)),

@@ -32,7 +32,7 @@ use Rattle.o32_laws.proofs.Laws.{O32-laws}
 use Rattle.o32_laws.proofs.Steps.{Stepped, step-described}
 use Rattle.o32_laws.proofs.Carrying.{reach-end}
 use Rattle.o32_laws.proofs.Numbering.{reach-count, number-after, walk-reach}
-use Rattle.o32_laws.proofs.Bounds.{unmarked, not-full, step-grows}
+use Rattle.o32_laws.proofs.Bounds.{marker-rightly, not-full, step-grows}
 use Rattle.words.proofs.Impossible.{impossible}
 
 -- the refusals by record are 1 to 5
@@ -81,7 +81,7 @@ module _ (d : Device) where
 
       go : (t u : Bool) → is Marker k ≡ t → is Pointer k ≡ u → Counted st k (advance st k)
       go true u e f =
-          let m : st .prefix .marked ≡ false = unmarked (is Marker k) (st .prefix .marked) _ _ (s .rightly) e in
+          let m : st .prefix .marked ≡ false = marker-rightly (is Marker k) (st .prefix .marked) _ _ (s .rightly) e .0 in
           record { markers = rw (e, m) refl; pointers = rw (e, no-pointer k e) (omega arith); few = rw e h }
       go false true e f =
           let z : st .prefix .count ≡ 0 = eqb-true (st .prefix .count) 0 (first-pointer (is Marker k) _ (is Pointer k) (eqb (st .prefix .count) 0) (s .rightly) f) in

@@ -96,13 +96,17 @@ pub data WriterRefuses (list : List ℕ) (room r place j : ℕ) : Type 0 where
   -- 7, "output buffer shorter than the result"
   short-buffer : (ks : List ℕ) → Accepted true list ks → room < imageBytes ks → r ≡ 7 → place ≡ 0 → j ≡ 0 → WriterRefuses list room r place j
 
+-- An image under an accepted signature is refused, where n bytes are to be answered, into a buffer with so many.
+pub data ImageRefuses (sig img : List ℕ) (n room r place j : ℕ) : Type 0 where
+  -- 6, "image length is not 32 + A"
+  wrong-length : (length img ≡ imageBytes sig → ⊥) → r ≡ 6 → place ≡ 0 → j ≡ 0 → ImageRefuses sig img n room r place j
+  short-buffer : length img ≡ imageBytes sig → room < n → r ≡ 7 → place ≡ 0 → j ≡ 0 → ImageRefuses sig img n room r place j
+  improper : length img ≡ imageBytes sig → n ≤ room → r ≡ 8 → FirstImproper sig img place j → ImageRefuses sig img n room r place j
+
 -- The reader refuses an image under a signature, into a buffer with so many bytes.
 pub data ReaderRefuses (sig img : List ℕ) (room r place j : ℕ) : Type 0 where
   by-record : RefusedAt false sig r place j → ReaderRefuses sig img room r place j
-  -- 6, "image length is not 32 + A"
-  wrong-length : Accepted false sig sig → (length img ≡ imageBytes sig → ⊥) → r ≡ 6 → place ≡ 0 → j ≡ 0 → ReaderRefuses sig img room r place j
-  short-buffer : Accepted false sig sig → length img ≡ imageBytes sig → room < listBytes sig → r ≡ 7 → place ≡ 0 → j ≡ 0 → ReaderRefuses sig img room r place j
-  improper : Accepted false sig sig → length img ≡ imageBytes sig → listBytes sig ≤ room → r ≡ 8 → FirstImproper sig img place j → ReaderRefuses sig img room r place j
+  by-image : Accepted false sig sig → ImageRefuses sig img (listBytes sig) room r place j → ReaderRefuses sig img room r place j
 
 -- ---- demand 1, of what a reader and a writer answer and leave in a lent buffer
 

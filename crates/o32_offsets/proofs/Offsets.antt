@@ -1,6 +1,6 @@
 -- Numbers rounded up, and the bytes of an argument after promotion.
 -- Assumes nothing.
-use mathlib.Core.Path.{_≡_, sym, _∙_}
+use mathlib.Core.Path.{_≡_, refl, sym, _∙_}
 use mathlib.Core.Logic.{inl, inr}
 use mathlib.Core.Bool.{Bool, true, false, cond, _||_}
 use Prim.Native.Nat.{ℕ, _+_, _-_, _*_, _/_, _≤_}
@@ -12,6 +12,7 @@ use Rattle.kinds.specs.declared.Class.the-variants.{Signed, Unsigned, Float}
 use Rattle.kinds.specs.declared.Kind.{Kind}
 use Rattle.kinds.specs.Kinds.{classNumber, is}
 use Rattle.kinds.proofs.Classes.{class-is}
+use Rattle.kinds.proofs.KindFacts.{Facts}
 use Rattle.o32_offsets.specs.Offsets.{width, Alignment}
 
 -- ---- the next multiple
@@ -62,3 +63,11 @@ module _ (k : Kind) where
       go : (t : Bool) → cond t 4 (k .size) ≤ 512
       go true = omega arith
       go false = h
+
+-- a body is among them
+pub body-within : (k : Kind) → Facts k → k .size ≤ width k
+body-within k s = go (is Signed k || is Unsigned k) refl
+  where
+    go : (t : Bool) → is Signed k || is Unsigned k ≡ t → k .size ≤ cond t 4 (k .size)
+    go true e = omega (arith, s .promoted e)
+    go false e = omega arith

@@ -1,20 +1,20 @@
 -- A run of bytes stored into the words of `$4` to `$7`, one word after the other.
 -- Assumes nothing.
 use mathlib.Core.Path.{_≡_, refl, ap, _∙_}
-use mathlib.Core.List.{List, [], _∷_, append-nil}
+use mathlib.Core.List.{List, [], append-nil}
 use mathlib.Core.Logic.{_⊎_, inl, inr}
 use mathlib.Core.Bool.{Bool, true, false, cond}
 use Prim.Native.Nat.{ℕ, _+_, _-_, _*_, _%_, _≤_, _<_, min}
 use native.Mathlib.Omega.{arith}
-use native.Mathlib.Numerals.{add-one}
 use native.Mathlib.Nat.{min-eq-left, min-eq-right}
 use lib.ListN.{length, getD, set, take, drop, length-drop}
-use lib.Seq.{length-take-le, drop-cons}
+use lib.Seq.{length-take-le}
 use lib.Dec.{ltb}
 use borrow.Author.Tests.{lt-ltb, le-ltb, ltb-true, ltb-false}
 use Rattle.words.specs.Words.{bytesOf}
 use Rattle.places.specs.Places.{put, run}
 use Rattle.o32_store.specs.Block.{bytesInWord}
+use Rattle.places.proofs.Runs.{from-first}
 use Rattle.places.proofs.Stores.{put-next, store-more}
 
 -- ---- how many bytes are in a word
@@ -39,9 +39,6 @@ at-most-four o n p = go (ltb p o)
     go false = omega arith
 
 -- ---- the bytes of a word
-
-from-first : (src : List ℕ) (at : ℕ) → at < length src → drop at src ≡ getD src at 0 ∷ drop (at + 1) src
-from-first src at h = drop-cons src at 0 h ∙ rw add-one
 
 -- the first one to three replaced by those of a source, the last of them first
 pub start-replaced : (w : ℕ) (src : List ℕ) (at n one two : ℕ) {after : List ℕ} → 1 ≤ n → n ≤ 3 → at + n ≤ length src

@@ -9,9 +9,9 @@ use lib.ListN.{length, drop}
 use lib.Dec.{eqb, ltb}
 use borrow.Author.Tests.{eq-eqb, ne-eqb, lt-ltb, le-ltb}
 use Rattle.answers.specs.declared.Answer.{Answer}
-use Rattle.answers.specs.Outcomes.{Outcome, done, refused, answerOf, bufferOf}
+use Rattle.answers.specs.Outcomes.{Outcome, done, refused, checkRoom, answerOf, bufferOf}
 use Rattle.carried.specs.Image.{Placed, image, reading, listLength, checked}
-use Rattle.carried.specs.Convention.{Convention, Plan, stopped, complete, plan, writeInto, readInto}
+use Rattle.carried.specs.Convention.{Convention, Plan, stopped, complete, plan, checkImage, writeInto, readInto}
 use Rattle.carried.proofs.Readings.{image-length, reading-length}
 use Rattle.carried.proofs.Walks.{walk-of, walk-sized}
 use Rattle.passes.specs.declared.Measured.{Measured}
@@ -54,7 +54,7 @@ module _ (c : Convention) (bodies : Bool) (l : List ℕ) where
       go (stopped r at j) f h = impossible (cc)
       go (complete L st) f h = record { admitted = record { placed = L; last = st; planned = f; whole = cc }; long = cc }
 
-refused-right : {x : Outcome} (out : List ℕ) {m : Measured} {r p j : ℕ} {a : Answer} → x ≡ refused r p j → m ≡ M.Refused r p j → a ≡ answerOf (outcome m (done [])) → Right x out a out
+pub refused-right : {x : Outcome} (out : List ℕ) {m : Measured} {r p j : ℕ} {a : Answer} → x ≡ refused r p j → m ≡ M.Refused r p j → a ≡ answerOf (outcome m (done [])) → Right x out a out
 refused-right out e g i = record { answer = i ∙ rw (g, e) refl; buffer = rw e }
 
 -- ---- the writer
@@ -85,71 +85,75 @@ module _ (c : Convention) (list out : List ℕ) where
           buffer = e ∙ rw (f .planned, ← (f .whole), long, le-ltb (length out) m h, long);
         }
 
+-- ---- an image under an accepted signature: 6, 7, 8, or x
+
+-- a call that answers x where the checks of the image pass; x has n bytes where the image has its length, m
+pub record Delivers (c : Convention) (sig img out x : List ℕ) (n m : ℕ) (into : Outcome) : Type 0 where
+  pub admitted : Admitted c false sig m
+  pub long : length img ≡ m → length x ≡ n
+  pub is : into ≡ checkImage c (checkRoom 7 (length out)) img (admitted .placed) (admitted .last) x
+
+module _ {c : Convention} {sig img out x : List ℕ} {n m : ℕ} {into : Outcome} (w : Delivers c sig img out x n m into) where
+  abbrev whole : ℕ
+  whole = c .imageLength (w .admitted .last)
+
+  pub image-wrong : (length img ≡ m → ⊥) → Right into out (record { refusal = 6; place = 0; argument = 0; length = 0 }) out
+  image-wrong h =
+      let k : eqb (length img) whole ≡ false = ne-eqb (length img) whole (λ e. h (e ∙ sym (w .admitted .whole))) in
+      record { answer = rw (w .is, k); buffer = rw (w .is, k) }
+
+  module _ (same : length img ≡ m) where
+    right-length : eqb (length img) whole ≡ true
+    right-length = eq-eqb (length img) whole (same ∙ w .admitted .whole)
+
+    pub image-admitted : Admitted c false sig (length img)
+    image-admitted = rw same (w .admitted)
+
+    pub image-short : length out < n → Right into out (record { refusal = 7; place = 0; argument = 0; length = 0 }) out
+    image-short h =
+        let k : ltb (length out) (length x) ≡ true = lt-ltb (length out) (length x) (omega (arith, w .long same)) in
+        record { answer = rw (w .is, right-length, k); buffer = rw (w .is, right-length, k) }
+
+    module _ (h : n ≤ length out) where
+      pub image-room : length x ≤ length out
+      image-room = omega (arith, w .long same)
+
+      -- q is what the last pass found, o what it left in the buffer
+      module _ (q : Checked) {o : List ℕ} (i : (y : Outcome) → verdict q y ≡ checked 8 0 (placedIn (plan c false sig)) img y)
+          (b : o ≡ bufferOf (checked 8 0 (placedIn (plan c false sig)) img (done x)) out) where
+        reached : checked 8 0 (placedIn (plan c false sig)) img (done x) ≡ into
+        reached =
+            let k : ltb (length out) (length x) ≡ false = le-ltb (length out) (length x) image-room in
+            rw (w .is, w .admitted .planned, right-length, k)
+
+        answered : verdict q (done x) ≡ into
+        answered = i (done x) ∙ reached
+
+        kept : o ≡ bufferOf into out
+        kept = b ∙ ap (λ (y : Outcome). bufferOf y out) reached
+
+        pub image-improper : {p j : ℕ} {a : Answer} → q ≡ K.Improper p j → a ≡ answerOf (verdict q (done [])) → Right into out a o
+        image-improper e k =
+            let z : verdict q (done []) ≡ verdict q (done x) = rw e in
+            record { answer = k ∙ ap answerOf (z ∙ answered); buffer = kept }
+
+        pub image-done : q ≡ K.Proper → Right into out (record { refusal = 0; place = 0; argument = 0; length = n }) o
+        image-done e =
+            let z : into ≡ done x = sym answered ∙ rw e in
+            record { answer = rw (z, w .long same) refl; buffer = kept }
+
 -- ---- the reader
 
 module _ {c : Convention} (given : Premises c) (sig img out : List ℕ) where
-  abbrev Answers : Answer → List ℕ → Type 0
-  Answers a o = Right (readInto c sig img (length out)) out a o
-
-  pub read-refused : {m : Measured} {r p j : ℕ} {a : Answer} → m ≡ measured c (plan c false sig) → m ≡ M.Refused r p j → a ≡ answerOf (outcome m (done [])) → Answers a out
+  pub read-refused : {m : Measured} {r p j : ℕ} {a : Answer} → m ≡ measured c (plan c false sig) → m ≡ M.Refused r p j → a ≡ answerOf (outcome m (done []))
+      → Right (readInto c sig img (length out)) out a out
   read-refused e g i = refused-right out (rw (was-refused c false sig e g)) g i
 
-  module _ {n m : ℕ} (found : Lengths c false sig n m) where
-    abbrev P : List Placed
-    P = found .admitted .placed
-
-    pub read-wrong : (length img ≡ m → ⊥) → Answers (record { refusal = 6; place = 0; argument = 0; length = 0 }) out
-    read-wrong l =
-        let f = found .admitted in
-        let k : eqb (length img) (c .imageLength (f .last)) ≡ false = ne-eqb (length img) (c .imageLength (f .last)) (λ x. l (x ∙ sym (f .whole))) in
-        record { answer = rw (f .planned, k); buffer = rw (f .planned, k) }
-
-    module _ (same : length img ≡ m) where
-      pub read-admitted : Admitted c false sig (length img)
-      read-admitted = rw same (found .admitted)
-
-      right-length : eqb (length img) (c .imageLength (found .admitted .last)) ≡ true
-      right-length = eq-eqb (length img) (c .imageLength (found .admitted .last)) (same ∙ found .admitted .whole)
-
-      reading-long : length (reading P img) ≡ n
-      reading-long = reading-length P img (walk-sized c (given .laws) (walk-of c (given .laws) sig (c .start) P (found .admitted .last) 0 (found .admitted .planned))) ∙ sym (found .long)
-
-      pub read-short : length out < n → Answers (record { refusal = 7; place = 0; argument = 0; length = 0 }) out
-      read-short l =
-          let k : ltb (length out) (length (reading P img)) ≡ true = lt-ltb (length out) (length (reading P img)) (omega (arith, reading-long)) in
-          record { answer = rw (found .admitted .planned, right-length, k); buffer = rw (found .admitted .planned, right-length, k) }
-
-      module _ (l : n ≤ length out) where
-        abbrev list : List ℕ
-        list = reading (placedIn (plan c false sig)) img
-
-        pub read-room : length (reading (placedIn (plan c false sig)) img) ≤ length out
-        read-room = rw (found .admitted .planned) (omega (arith, reading-long))
-
-        -- what the last pass is to answer
-        abbrev last : Outcome
-        last = checked 8 0 (placedIn (plan c false sig)) img (done list)
-
-        reached : last ≡ readInto c sig img (length out)
-        reached =
-            let k : ltb (length out) (length (reading P img)) ≡ false = le-ltb (length out) (length (reading P img)) (omega (arith, reading-long)) in
-            rw (found .admitted .planned, right-length, k)
-
-        -- q is what it found, o what it left in the buffer
-        module _ (q : Checked) {o : List ℕ} (i : (x : Outcome) → verdict q x ≡ checked 8 0 (placedIn (plan c false sig)) img x) (b : o ≡ bufferOf last out) where
-          answered : verdict q (done list) ≡ readInto c sig img (length out)
-          answered = i (done list) ∙ reached
-
-          kept : o ≡ bufferOf (readInto c sig img (length out)) out
-          kept = b ∙ ap (λ (x : Outcome). bufferOf x out) reached
-
-          pub read-improper : {p j : ℕ} {a : Answer} → q ≡ K.Improper p j → a ≡ answerOf (verdict q (done [])) → Answers a o
-          read-improper h k =
-              let same : verdict q (done []) ≡ verdict q (done list) = rw h in
-              record { answer = k ∙ ap answerOf (same ∙ answered); buffer = kept }
-
-          pub read-done : q ≡ K.Proper → Answers (record { refusal = 0; place = 0; argument = 0; length = n }) o
-          read-done h =
-              let e : readInto c sig img (length out) ≡ done list = sym answered ∙ rw h in
-              let long : n ≡ length list = rw (found .admitted .planned) (sym reading-long) in
-              record { answer = rw (e, long) refl; buffer = kept }
+  pub read-delivers : {n m : ℕ} → Lengths c false sig n m → Delivers c sig img out (reading (placedIn (plan c false sig)) img) n m (readInto c sig img (length out))
+  read-delivers found =
+      let a = found .admitted in
+      record {
+        admitted = a;
+        long = λ e. rw (a .planned) (reading-length (a .placed) img (walk-sized c (given .laws) (walk-of c (given .laws) sig (c .start) (a .placed) (a .last) 0 (a .planned))) ∙ sym (found .long));
+        is = rw (a .planned);
+      }

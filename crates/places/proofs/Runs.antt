@@ -5,6 +5,7 @@ use mathlib.Core.Logic.{inl, inr}
 use mathlib.Core.List.{List, _∷_, _++_}
 use Prim.Native.Nat.{ℕ, zero, suc, _+_, _≤_, _<_}
 use native.Mathlib.Omega.{arith}
+use native.Mathlib.Numerals.{add-one}
 use native.Mathlib.Nat.{zero-add, suc-add, add-zero, add-suc}
 use lib.ListN.{length, getD, take, drop}
 use lib.Seq.{drop-cons}
@@ -35,3 +36,7 @@ getD-run (suc n) p (suc i) h = getD-run n (suc p) i (omega arith) ∙ omega arit
 pub gather-run : (img : List ℕ) (n p : ℕ) → p + n ≤ length img → gather img (run p n) ≡ take n (drop p img)
 gather-run img zero p h = refl
 gather-run img (suc n) p h = rw (gather-run img n (suc p) (omega arith), drop-cons img p 0 (omega arith))
+
+-- what is left from a place on is the byte there, and what is left after it
+pub from-first : (l : List ℕ) (at : ℕ) → at < length l → drop at l ≡ getD l at 0 ∷ drop (at + 1) l
+from-first l at h = drop-cons l at 0 h ∙ rw add-one

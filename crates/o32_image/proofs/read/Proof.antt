@@ -3,7 +3,11 @@
 use mathlib.Core.Path.{_∙_}
 use mathlib.Core.Bool.{false}
 use native.Mathlib.Omega.{arith}
-use Rattle.passes.proofs.Answers.{Lengths, was-accepted, read-refused, read-wrong, read-admitted, read-short, read-room, read-improper, read-done}
+use lib.ListN.{length}
+use Rattle.passes.proofs.Answers.{Delivers, was-accepted, image-wrong, image-admitted, image-short, image-room, image-improper, image-done, read-refused, read-delivers}
+use Rattle.carried.specs.Image.{reading}
+use Rattle.carried.specs.Convention.{plan, readInto}
+use Rattle.passes.specs.Passes.{placedIn}
 use Rattle.o32.specs.O32.{O32}
 use Rattle.o32_laws.proofs.Premises.{O32-premises}
 use borrow.Author.Needs.{needs}
@@ -29,18 +33,24 @@ returns c =
     (r .answer, r .buffer)
 
 -- the signature is accepted, its list and its images have these lengths
-found : (c : tie.After-known-told) → (let s = c .before .before .before .before .before .before .before .args in Lengths (O32 (s .device)) false (s .signature .now) (c .before .found .given .0 .0) (c .before .found .given .0 .1 .0))
+abbrev Found : tie.After-known-told → Type 0
+Found c =
+    let s = c .before .before .before .before .before .before .before .args in
+    Delivers (O32 (s .device)) (s .signature .now) (s .image .now) (s .out .now) (reading (placedIn (plan (O32 (s .device)) false (s .signature .now))) (s .image .now))
+    (c .before .found .given .0 .0) (c .before .found .given .0 .1 .0) (readInto (O32 (s .device)) (s .signature .now) (s .image .now) (length (s .out .now)))
+
+found : (c : tie.After-known-told) → Found c
 found c =
     let s = c .before .before .before .before .before .before .before .args in
-    was-accepted (O32 (s .device)) false (s .signature .now) (c .before .before .before .measure-signature .ensures (s .device)) (c .before .found .given .1)
+    read-delivers (O32-premises (s .device)) (s .signature .now) (s .image .now) (s .out .now)
+    (was-accepted (O32 (s .device)) false (s .signature .now) (c .before .before .before .measure-signature .ensures (s .device)) (c .before .found .given .1))
 
 reply-requires : tie.Need-reply-requires
 reply-requires c κs = search needs
 
 returns-2 : tie.Need-returns-2
 returns-2 c =
-    let s = c .before .before .before .before .before .before .before .before .before .args in
-    let r = read-wrong (O32-premises (s .device)) (s .signature .now) (s .image .now) (s .out .now) (found (c .before .before)) (c .before .if1 .taken) in
+    let r = image-wrong (found (c .before .before)) (c .before .if1 .taken) in
     (c .reply .ensures ∙ r .answer, r .buffer)
 
 reply-requires-2 : tie.Need-reply-requires-2
@@ -48,16 +58,14 @@ reply-requires-2 c κs = search needs
 
 returns-3 : tie.Need-returns-3
 returns-3 c =
-    let s = c .before .before .before .before .before .before .before .before .before .before .args in
-    let r = read-short (O32-premises (s .device)) (s .signature .now) (s .image .now) (s .out .now) (found (c .before .before .before)) (c .before .before .if1 .left) (omega arith) in
+    let r = image-short (found (c .before .before .before)) (c .before .before .if1 .left) (omega arith) in
     (c .reply2 .ensures ∙ r .answer, r .buffer)
 
 deliver-requires : tie.Need-deliver-requires
 deliver-requires c κs =
-    let s = c .before .before .before .before .before .before .before .before .before .before .args in
     let v = found (c .before .before .before) in (
-      read-admitted (O32-premises (s .device)) (s .signature .now) (s .image .now) (s .out .now) v (c .before .before .if1 .left),
-      read-room (O32-premises (s .device)) (s .signature .now) (s .image .now) (s .out .now) v (c .before .before .if1 .left) (c .before .if2 .left),
+      image-admitted v (c .before .before .if1 .left),
+      image-room v (c .before .before .if1 .left) (c .before .if2 .left),
     )
 
 enum-told-2 : tie.Need-enum-told-2
@@ -74,9 +82,8 @@ same-length c = search needs
 
 returns-4 : tie.Need-returns-4
 returns-4 c =
-    let s = c .before .before .before .before .before .before .before .before .before .before .before .before .before .before .before .before .args in
     let e = c .before .before .before .before .before .deliver .ensures in
-    let r = read-improper (O32-premises (s .device)) (s .signature .now) (s .image .now) (s .out .now) (found (c .before .before .before .before .before .before .before .before .before)) (c .before .before .before .before .before .before .before .before .if1 .left) (c .before .before .before .before .before .before .before .if2 .left) (c .before .before .before .before .before .deliver .result) (e .0) (e .1) (c .before .enum-told3 .given .1) (c .improper .ensures) in
+    let r = image-improper (found (c .before .before .before .before .before .before .before .before .before)) (c .before .before .before .before .before .before .before .before .if1 .left) (c .before .before .before .before .before .before .before .if2 .left) (c .before .before .before .before .before .deliver .result) (e .0) (e .1) (c .before .enum-told3 .given .1) (c .improper .ensures) in
     (r .answer, r .buffer)
 
 reply-requires-3 : tie.Need-reply-requires-3
@@ -87,9 +94,8 @@ same-length-2 c = search needs
 
 returns-5 : tie.Need-returns-5
 returns-5 c =
-    let s = c .before .before .before .before .before .before .before .before .before .before .before .before .before .before .before .before .args in
     let e = c .before .before .before .before .before .deliver .ensures in
-    let r = read-done (O32-premises (s .device)) (s .signature .now) (s .image .now) (s .out .now) (found (c .before .before .before .before .before .before .before .before .before)) (c .before .before .before .before .before .before .before .before .if1 .left) (c .before .before .before .before .before .before .before .if2 .left) (c .before .before .before .before .before .deliver .result) (e .0) (e .1) (c .before .enum-told2 .given .1) in
+    let r = image-done (found (c .before .before .before .before .before .before .before .before .before)) (c .before .before .before .before .before .before .before .before .if1 .left) (c .before .before .before .before .before .before .before .if2 .left) (c .before .before .before .before .before .deliver .result) (e .0) (e .1) (c .before .enum-told2 .given .1) in
     (c .reply3 .ensures ∙ r .answer, r .buffer)
 
 pub read-spec : {M : Type 1} → statement M
