@@ -1,12 +1,14 @@
 /*
  * o32.h - call images and frames of the MIPS O32 calling convention.
  *
- * Five functions do the work:
+ * Six functions do the work:
  *
  *   o32_write     turns a list of arguments into a call image: the contents
  *                 of the argument registers and of the stack's argument area
  *                 at the moment of the call;
  *   o32_read      reads such an image back, given the kinds of the arguments;
+ *   o32_walk      takes the arguments behind an ellipsis from such an image,
+ *                 as the called routine does;
  *   o32_frame     lays out a function's stack frame;
  *   o32_prologue  writes the instructions that set a frame up;
  *   o32_epilogue  writes those that take it down and return.
@@ -34,8 +36,8 @@
  * The compiler warns where an answer is ignored.
  *
  * VERSIONS. O32_VERSION is the version of this header, o32_version() that of
- * the library. Both change with every release that changes a struct or a
- * function here. A program must not go on where they differ: it would take one
+ * the library. Both change with every release that changes or adds a struct or
+ * a function here. A program must not go on where they differ: it could take one
  * number of an answer for another, such as the argument for the length.
  * host/c/example.c compares them first of all. A library from before version 1
  * has no o32_version, so a program that asks for it doesn't link.
@@ -46,7 +48,7 @@
  *
  * DEVICES
  *
- * The first parameter of each of the five is the device, the board that the
+ * The first parameter of each of the six is the device, the board that the
  * call or the frame is for:
  *
  *   0  O32_FPU      it has a floating-point unit
@@ -125,18 +127,40 @@
  *
  * Whatever carries nothing is zero in an image that o32_write makes: unused
  * registers, holes, fill, and the area's first 16 bytes, the homes of the
- * register words. o32_read ignores such bytes. Without a floating-point unit
- * the four words $f12 to $f15 carry nothing, whatever the arguments are.
+ * register words. o32_read and o32_walk ignore such bytes. Without a
+ * floating-point unit the four words $f12 to $f15 carry nothing, whatever the
+ * arguments are.
  *
  *
- * REFUSALS OF o32_write AND o32_read
+ * ROUTINES WITH AN ELLIPSIS
  *
- * Records are checked from left to right, each by 1 to 5 in this order; 6 to 8
- * follow when all records have passed. The place of 1 to 5 is the offset of the
- * record's kind byte in what was given, the list or the signature; that of 8 is
- * the offset of the first such kind byte in the signature. Arguments are counted
- * from 1, a return pointer too and the marker not; the argument is the number
- * that the refused one has or would have.
+ * Such a routine stores $4 to $7 in their homes, so that all arguments behind
+ * the marker lie in the area, and then goes through memory. It starts at the
+ * end of the last argument before the marker; a float in $f12 or $f14 counts by
+ * its offset there. It asks for one kind at a time: it goes on to the next
+ * multiple of the kind's alignment, takes the bytes there, of a byte or
+ * halfword the last one or two of its word, and steps over them, rounded up to
+ * whole words. o32_walk does the same, and gives what was taken, the bodies
+ * alone, end to end. It is for checking, before an image is loaded, what the
+ * routine will see.
+ *
+ * On an image that o32_read accepts, these are the bodies that o32_read gives
+ * for the arguments behind the marker, on every device. Arguments before the
+ * marker are not offered: a float there may have an empty home.
+ *
+ * Example: the list 07 3F800000 0A 08 4000000000000000 is a single, the marker
+ * and a double. The single goes to $f12 and ends at offset 4; the walk goes on
+ * to 8 and takes $6 and $7, which are 40000000 and 00000000.
+ *
+ *
+ * REFUSALS OF o32_write, o32_read AND o32_walk
+ *
+ * Records are checked from left to right, each by 1 to 5 in this order; 15, 6,
+ * 7 and 8 follow in this order when all records have passed. The place of 1 to
+ * 5 is the offset of the record's kind byte in what was given, the list or the
+ * signature; that of 8 is the offset of the first such kind byte in the
+ * signature. Arguments are counted from 1, a return pointer too and the marker
+ * not; the argument is the number that the refused one has or would have.
  *
  *   no.  meaning                                          place      argument
  *    1   unknown kind                                     kind byte  0
@@ -145,12 +169,15 @@
  *    3   a 33rd argument                                  kind byte  33
  *    4   the body is cut off (o32_write only)             kind byte  its number
  *    5   the argument ends beyond 1,024                   kind byte  its number
+ *   15   the signature has no marker (o32_walk only)      0          0
  *    6   the image's length isn't the one that the
- *        signature asks for, 32 + A (o32_read only)       0          0
+ *        signature asks for, 32 + A (not o32_write)       0          0
  *    7   the output buffer is shorter than the result     0          0
  *    8   the word of a byte or halfword (01 to 04) is
  *        none that promotion gives, as 00000080 for 01
- *        (o32_read only)                                  kind byte  its number
+ *        (not o32_write)                                  kind byte  its number
+ *
+ * o32_walk gives 8 just as o32_read does, for arguments before the marker too.
  *
  *
  * FRAMES
@@ -200,7 +227,7 @@
 #include <stdint.h>
 
 /* The version of this header. The library's must be the same. */
-#define O32_VERSION 1
+#define O32_VERSION 2
 
 /*
  * Makes the compiler warn where an answer is ignored: by the language's own
@@ -235,6 +262,7 @@ extern "C" {
 /* Sizes of buffers that are always enough. */
 #define O32_LIST_MAX 1057     /* the longest list that is accepted */
 #define O32_IMAGE_MAX 1056    /* the longest image */
+#define O32_BODIES_MAX 1020   /* the most bytes of bodies behind a marker */
 #define O32_PROLOGUE_MAX 92   /* the longest prologue */
 #define O32_EPILOGUE_MAX 96   /* the longest epilogue */
 
@@ -254,10 +282,11 @@ enum o32_refusal {
     O32_LOCALS = 11,
     O32_OUTGOING = 12,
     O32_SHORT_CODE = 13,
-    O32_PAIRS_WITHOUT_UNIT = 14
+    O32_PAIRS_WITHOUT_UNIT = 14,
+    O32_NO_MARKER = 15
 };
 
-/* What o32_write, o32_read, o32_prologue and o32_epilogue answer. */
+/* What o32_write, o32_read, o32_walk, o32_prologue and o32_epilogue answer. */
 typedef struct {
     uint32_t refusal;  /* 0 on success */
     uint32_t place;    /* offset of the refused kind byte, or 0 */
@@ -303,6 +332,19 @@ o32_answer o32_read(uint32_t device,
                     const uint8_t *signature, size_t signature_len,
                     const uint8_t *image, size_t image_len,
                     uint8_t *list, size_t list_len);
+
+/*
+ * Writes the bodies that a routine with an ellipsis takes from an image behind
+ * the marker of a signature: bodies only, end to end, without kind bytes. A
+ * marker that comes last gives length 0. `image_len` is the image's exact
+ * length. Refuses 1 to 3, 5 to 8 and 15; 7 is for a buffer shorter than these
+ * bodies. A buffer of O32_BODIES_MAX bytes is always enough.
+ */
+O32_NODISCARD
+o32_answer o32_walk(uint32_t device,
+                    const uint8_t *signature, size_t signature_len,
+                    const uint8_t *image, size_t image_len,
+                    uint8_t *bodies, size_t bodies_len);
 
 /* Lays out a frame. Refuses 9 to 12 and 14. */
 O32_NODISCARD

@@ -1,5 +1,6 @@
 /*
- * A worked example: a call image written and read back, and a frame's code.
+ * A worked example: a call image written, read back and taken apart as a
+ * routine with an ellipsis does, and a frame's code.
  *
  * Every buffer comes from malloc with exactly the length that is passed on, so
  * that a memory checker sees a byte read or written too far.
@@ -218,6 +219,105 @@ static void argument_numbers(void)
     free(image);
 }
 
+/* A single, the marker, a double, a signed byte and a structure of six. */
+static const uint8_t variadic[] = {0x07, 0x3F, 0x80, 0,    0,    0x0A,
+                                   0x08, 1,    2,    3,    4,    5,
+                                   6,    7,    8,    0x01, 0x80, 0x45,
+                                   0x11, 0x12, 0x13, 0x14, 0x15, 0x16};
+static const uint8_t variadic_kinds[] = {0x07, 0x0A, 0x08, 0x01, 0x45};
+
+/* What a routine takes behind the marker. */
+static const uint8_t unnamed[] = {1,    2,    3,    4,    5,    6,    7,   8,
+                                  0x80, 0x11, 0x12, 0x13, 0x14, 0x15, 0x16};
+
+/* The list's image with other bytes in $4, $5 and the homes. */
+static uint8_t *variadic_image(void)
+{
+    uint8_t *given = copy_of(variadic, sizeof variadic);
+    uint8_t *image = buffer(64);
+    check(is_answer(o32_write(O32_FPU, given, sizeof variadic, image, 64), 0,
+                    0, 0, 64),
+          "a list with a marker is written");
+    memset(image, 0xEE, 8);
+    memset(image + 32, 0xEE, 16);
+    free(given);
+    return image;
+}
+
+/* The single ends at 4, so the double is in $6 and $7, the rest from 16 on. */
+static void check_walk(uint32_t device, const uint8_t *image,
+                       const char *what)
+{
+    uint8_t *signature = copy_of(variadic_kinds, sizeof variadic_kinds);
+    uint8_t *bodies = buffer(sizeof unnamed);
+    check(is_answer(o32_walk(device, signature, sizeof variadic_kinds, image,
+                             64, bodies, sizeof unnamed),
+                    0, 0, 0, sizeof unnamed) &&
+              memcmp(bodies, unnamed, sizeof unnamed) == 0 &&
+              memcmp(signature, variadic_kinds, sizeof variadic_kinds) == 0,
+          what);
+    free(bodies);
+    free(signature);
+}
+
+static void refused_walks(const uint8_t *image)
+{
+    const size_t kinds = sizeof variadic_kinds, room = sizeof unnamed - 1;
+    uint8_t *signature = copy_of(variadic_kinds, kinds);
+    uint8_t *bodies = buffer(room);
+
+    check(is_answer(o32_walk(O32_FPU, signature, 1, image, 64, bodies, room),
+                    O32_NO_MARKER, 0, 0, 0),
+          "a signature without a marker is refused before the image");
+    check(is_answer(o32_walk(O32_FPU, signature, kinds, image, 48, bodies,
+                             room),
+                    O32_IMAGE_LENGTH, 0, 0, 0),
+          "then the image's length is looked at");
+    check(is_answer(o32_walk(O32_FPU, signature, kinds, image, 64, bodies,
+                             room),
+                    O32_SHORT_OUTPUT, 0, 0, 0) &&
+              all_are(bodies, room, 0xA5),
+          "then the room for the bodies, and the buffer stays");
+    check(is_answer(o32_walk(O32_FPU, signature, 2, image, 48, NULL, 0), 0, 0,
+                    0, 0),
+          "a marker that comes last has nothing behind it");
+
+    free(bodies);
+    free(signature);
+}
+
+/* The arguments before the marker must be proper promotions as well. */
+static void improper_before_marker(void)
+{
+    static const uint8_t kinds[] = {0x01, 0x0A, 0x05};
+
+    uint8_t *signature = copy_of(kinds, sizeof kinds);
+    uint8_t *image = buffer(48);
+    uint8_t *bodies = buffer(4);
+    memset(image, 0, 48);
+    image[2] = 1;
+    check(is_answer(o32_walk(O32_FPU, signature, sizeof kinds, image, 48,
+                             bodies, 4),
+                    O32_NO_PROMOTION, 0, 1, 0) &&
+              all_are(bodies, 4, 0xA5),
+          "00000100 before the marker is no signed byte");
+    free(bodies);
+    free(image);
+    free(signature);
+}
+
+/* What a routine with an ellipsis takes is the same on every device. */
+static void ellipsis(void)
+{
+    uint8_t *image = variadic_image();
+    check_walk(O32_FPU, image, "the bodies behind the marker are taken");
+    check_walk(O32_NO_FPU, image, "without a unit they are the same");
+    check_walk(UINT32_C(0xFFFFFFFF), image, "also by another number");
+    refused_walks(image);
+    free(image);
+    improper_before_marker();
+}
+
 /* A function that calls others, saves $16 and has one word of locals. */
 static void example_frame(void)
 {
@@ -374,6 +474,7 @@ int main(void)
     empty_buffers();
     refusals();
     argument_numbers();
+    ellipsis();
     example_frame();
     devices();
     printf("%d passed, %d failed\n", passed, failed);

@@ -11,6 +11,7 @@ void ignore(const uint8_t *input, uint8_t *output)
 {
     o32_write(O32_FPU, input, 1, output, 1);
     o32_read(O32_FPU, input, 1, input, 1, output, 1);
+    o32_walk(O32_FPU, input, 1, input, 1, output, 1);
     o32_frame(O32_FPU, 1, 0, 0, 0, 0);
     o32_prologue(O32_FPU, 1, 0, 0, 0, 0, output, 1);
     o32_epilogue(O32_FPU, 1, 0, 0, 0, 0, output, 1);

@@ -8,17 +8,20 @@ use Prim.Native.Nat.{ℕ, suc, _+_, _≤_}
 use native.Mathlib.Omega.{arith}
 use lib.ListN.{length, length-append}
 use lib.Dec.{eqb, ltb}
+use borrow.Author.Tests.{eqb-true}
 use Rattle.words.specs.Words.{body, proper}
 use Rattle.device.specs.declared.Device.{Device}
 use Rattle.answers.specs.Outcomes.{Outcome, done, refused, checkRoom, answerOf, bufferOf}
 use Rattle.carried.specs.Image.{checked, image, reading, Placed}
 use Rattle.places.specs.Places.{gather}
-use Rattle.carried.specs.Convention.{Plan, stopped, complete, plan, writePlan, readPlan, writeInto, readInto}
+use Rattle.carried.specs.Convention.{Plan, stopped, complete, plan, writePlan, checkImage, readPlan, writeInto, readInto}
 use Rattle.carried.proofs.Readings.{image-length}
 use Rattle.o32.specs.declared.State.{State}
 use Rattle.o32.specs.O32.{O32, imageSize}
 use Rattle.o32_laws.proofs.Bounds.{Numbers, refusal-bound, plan-bound, reading-long}
 use Rattle.answers.specs.declared.Answer.{Answer}
+use Rattle.varargs.specs.Walking.{walked, marked, walkPlan, walkInto}
+use Rattle.varargs.proofs.Bodies.{walked-long, bodies-most}
 use Rattle.frame.specs.declared.Request.{Request}
 use Rattle.frame.specs.Words.{prologueWords, epilogueWords}
 use Rattle.frame_code.specs.Code.{codeInto, prologueInto, epilogueInto}
@@ -73,21 +76,38 @@ checked-bounded (s ∷ L) img at x h n b =
     go true w = w
     go false w = (omega arith, n .0)
 
+-- what is answered for an image, where it has its length
+image-bounded : (d : Device) (sig img : List ℕ) (room : ℕ) (L : List Placed) (last : State) (x : List ℕ) → plan (O32 d) false sig ≡ complete L last
+    → (length img ≡ imageSize (last .end) → length x ≤ 1057) → Bounded (checkImage (O32 d) (checkRoom 7 room) img L last x)
+image-bounded d sig img room L last x e h = go (eqb (length img) (imageSize (last .end))) refl
+  where
+    go : (t : Bool) → eqb (length img) (imageSize (last .end)) ≡ t → Bounded (cond t (checkRoom 7 room (length x) (checked 8 0 L img (done x))) (refused 6 0 0))
+    go true f =
+        let l : length (reading L img) ≤ 1057 = reading-long d sig img L last e in
+        room-bounded 7 room (length x) (checked 8 0 L img (done x))
+        (checked-bounded L img 0 (done x) (omega arith) (plan-bound d false sig L last e .numbers) (h (eqb-true (length img) (imageSize (last .end)) f)))
+    go false f = nowhere
+
 read-bounded : (d : Device) (sig img : List ℕ) (room : ℕ) (q : Plan State) → plan (O32 d) false sig ≡ q → Bounded (readPlan (O32 d) (checkRoom 7 room) img q)
 read-bounded d sig img room (stopped r at j) e = refusal-bound d false sig r at j e
-read-bounded d sig img room (complete L last) e = go (eqb (length img) (imageSize (last .end)))
-  where
-    last-bounded : Bounded (checked 8 0 L img (done (reading L img)))
-    last-bounded =
-        let l : length (reading L img) ≤ 1057 = reading-long d sig img L last e in
-        checked-bounded L img 0 (done (reading L img)) (omega arith) (plan-bound d false sig L last e .numbers) l
-
-    go : (t : Bool) → Bounded (cond t (checkRoom 7 room (length (reading L img)) (checked 8 0 L img (done (reading L img)))) (refused 6 0 0))
-    go true = room-bounded 7 room (length (reading L img)) (checked 8 0 L img (done (reading L img))) last-bounded
-    go false = nowhere
+read-bounded d sig img room (complete L last) e = image-bounded d sig img room L last (reading L img) e (λ h. reading-long d sig img L last e)
 
 pub read-fits : {a : Answer} (d : Device) (sig img : List ℕ) (room : ℕ) → a ≡ answerOf (readInto (O32 d) sig img room) → Fits a
 read-fits d sig img room e = fits (readInto (O32 d) sig img room) (read-bounded d sig img room (plan (O32 d) false sig) refl) e
+
+-- ---- the walker
+
+walk-bounded : (d : Device) (sig img : List ℕ) (room : ℕ) (q : Plan State) → plan (O32 d) false sig ≡ q
+    → Bounded (walkPlan d (checkRoom 7 room) sig img q)
+walk-bounded d sig img room (stopped r at j) e = refusal-bound d false sig r at j e
+walk-bounded d sig img room (complete L last) e = go (marked sig) refl
+  where
+    go : (t : Bool) → marked sig ≡ t → Bounded (cond t (checkImage (O32 d) (checkRoom 7 room) img L last (walked sig img)) (refused 15 0 0))
+    go true m = image-bounded d sig img room L last (walked sig img) e (λ h. omega (arith, walked-long d sig e m img h, bodies-most d sig e m))
+    go false m = nowhere
+
+pub walk-fits : {a : Answer} (d : Device) (sig img : List ℕ) (room : ℕ) → a ≡ answerOf (walkInto d sig img room) → Fits a
+walk-fits d sig img room e = fits (walkInto d sig img room) (walk-bounded d sig img room (plan (O32 d) false sig) refl) e
 
 -- ---- the code of a frame
 

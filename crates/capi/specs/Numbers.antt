@@ -11,6 +11,8 @@ use Rattle.answers.specs.Outcomes.{answerOf, bufferOf}
 use Rattle.carried.specs.Convention.{readInto, writeInto}
 use Rattle.carried.specs.Calls.{Result, Functions}
 use Rattle.o32.specs.O32.{O32}
+use Rattle.varargs.specs.Walking.{walkInto}
+use Rattle.varargs.specs.Varargs.{Walker}
 use Rattle.frame.specs.declared.Request.{Request}
 use Rattle.frame.specs.declared.Layout.{Layout}
 use Rattle.capi.specs.declared.O32Answer.{O32Answer}
@@ -57,3 +59,8 @@ functionsForC device = record {
       resultForC (narrow (answerOf (readInto (O32 (deviceOf device)) sig img (length out)))) (bufferOf (readInto (O32 (deviceOf device)) sig img (length out)) out);
   write = λ list out. resultForC (narrow (answerOf (writeInto (O32 (deviceOf device)) list (length out)))) (bufferOf (writeInto (O32 (deviceOf device)) list (length out)) out);
 }
+
+-- `o32_walk` with this device, likewise.
+abbrev pub walkerForC : ℕ → Walker
+walkerForC device sig img out =
+    resultForC (narrow (answerOf (walkInto (deviceOf device) sig img (length out)))) (bufferOf (walkInto (deviceOf device) sig img (length out)) out)

@@ -5,6 +5,7 @@ ghost use lib.ListN.{length};
 ghost use Rattle.o32.specs.O32.{O32};
 ghost use Rattle.answers.specs.Outcomes.{answerOf, bufferOf};
 ghost use Rattle.carried.specs.Convention.{readInto, writeInto};
+ghost use Rattle.varargs.specs.Walking.{walkInto};
 ghost use Rattle.frame.specs.Frame.{layoutOf};
 ghost use Rattle.frame_code.specs.Code.{epilogueInto, prologueInto};
 ghost use Rattle.capi.specs.Numbers.{deviceOf, layoutNumbers, narrow, requestOf};
@@ -73,12 +74,13 @@ fn as_request(leaf: u32, locals: u32, outgoing: u32, general: u32, pairs: u32) -
     }
 }
 
-// The version of this interface, O32_VERSION of include/o32.h. The number rises with every change of a struct or a function here.
+// The version of this interface, O32_VERSION of include/o32.h. The number rises with every release that changes or adds a struct
+// or a function here.
 #[no_mangle]
 pub extern "C" fn o32_version() -> u32
-    ensures { λ r. ⌜ r ≡ 1 ⌝ }
+    ensures { λ r. ⌜ r ≡ 2 ⌝ }
 {
-    1
+    2
 }
 
 // The call image of a list for a device.
@@ -103,6 +105,21 @@ pub extern "C" fn o32_read(
     ensures buffer { λ _. ⌜ now (list .exit) ≡ bufferOf (readInto (O32 (deviceOf device)) (now (signature .entry)) (now (image .entry)) (length (now (list .entry)))) (now (list .entry)) ⌝ }
 {
     let answer = o32_image::read(as_device(device), signature, image, list);
+    narrowed(answer)
+}
+
+// The bodies of the arguments after the marker, as a routine with an ellipsis takes them from an image, for a device.
+#[no_mangle]
+pub extern "C" fn o32_walk(
+    device: u32,
+    signature: &[u8],
+    image: &[u8],
+    bodies: &mut [u8],
+) -> O32Answer
+    ensures answer { λ r. ⌜ r ≡ narrow (answerOf (walkInto (deviceOf device) (now (signature .entry)) (now (image .entry)) (length (now (bodies .entry))))) ⌝ }
+    ensures buffer { λ _. ⌜ now (bodies .exit) ≡ bufferOf (walkInto (deviceOf device) (now (signature .entry)) (now (image .entry)) (length (now (bodies .entry)))) (now (bodies .entry)) ⌝ }
+{
+    let answer = varargs_code::walk(as_device(device), signature, image, bodies);
     narrowed(answer)
 }
 

@@ -1,24 +1,26 @@
-// Runs the cases of a text on standard input, one to a line, and prints what the writer and the reader answer, and what the program
-// `image` prints.
+// Runs the cases of a text on standard input, one to a line, and prints what the writer, the reader and the walker answer, and what
+// the program `image` prints.
 //
 // An empty line, and a line that starts with #, is printed as it is. Any other line is printed with the answer below it:
 //
 //     write ROOM, LIST                the image of a list, in a buffer of ROOM bytes
 //     read ROOM, SIGNATURE, IMAGE     the list of an image under a signature, in a buffer of ROOM bytes
-//     nwrite, nread                   the same without a floating-point unit
+//     varargs ROOM, SIGNATURE, IMAGE  what a routine with an ellipsis takes from an image, in a buffer of ROOM bytes
+//     nwrite, nread, nvarargs         the same without a floating-point unit
 //     print LIST                      what the program `image` prints for a list
 //     show LENGTH, BYTES              how an answer of LENGTH bytes is shown, in a buffer that starts with BYTES
 //
 // ROOM and LENGTH are decimal numbers, at most 4,096. LIST, SIGNATURE, IMAGE and BYTES are at most 4,096 bytes, each a pair of hex
 // digits, with spaces between them or none. After a pair, *N makes N equal bytes of it, and +N makes N bytes that count up from it.
-// Of the words write, read, print and show the first letter decides, after an n the next one. A line that has another form is
-// answered "malformed".
+// Of the words write, read, varargs, print and show the first letter decides, after an n the next one. A line that has another form
+// is answered "malformed".
 // Of the text the first 131,072 bytes are read.
 //
 // The answer is the refusal, or the bytes that were written, 16 to a line; then their number, and whether every other byte of
 // the buffer is kept.
 ghost use Prim.Native.Nat.{_≤_};
 ghost use lib.ListN.{length};
+use answers::Answer;
 use device::Device;
 use libc::STDIN_FILENO;
 use libc::STDOUT_FILENO;
@@ -42,17 +44,31 @@ fn run_write(device: Device, room: usize, line: &[u8], from: usize)
     case_output::print_answer(answer, &out);
 }
 
-// The reader, of a signature and an image.
-fn print_reading(device: Device, room: usize, signature: &[u8], image: &[u8])
+// The walker or the reader, of a signature and an image.
+fn walk_or_read(
+    device: Device,
+    walks: bool,
+    signature: &[u8],
+    image: &[u8],
+    out: &mut [u8],
+) -> Answer {
+    if walks {
+        return varargs_code::walk(device, signature, image, out);
+    }
+    o32_image::read(device, signature, image, out)
+}
+
+// What the one or the other answers, with a buffer of so many bytes.
+fn print_walk_or_read(device: Device, walks: bool, room: usize, signature: &[u8], image: &[u8])
     requires { ⌜ room ≤ 4096 ⌝ }
 {
     let mut out = case_output::fresh_buffer();
-    let answer = o32_image::read(device, signature, image, &mut out[..room]);
+    let answer = walk_or_read(device, walks, signature, image, &mut out[..room]);
     case_output::print_answer(answer, &out);
 }
 
-// The reader, of the signature from a place of a line to a comma, and the image after it.
-fn run_read(device: Device, room: usize, line: &[u8], from: usize)
+// The walker or the reader, of the signature from a place of a line to a comma, and the image after it.
+fn run_walk_or_read(device: Device, walks: bool, room: usize, line: &[u8], from: usize)
     requires { ⌜ room ≤ 4096 ⌝ }
     requires { ⌜ from ≤ length (now line) ⌝ }
 {
@@ -70,7 +86,7 @@ fn run_read(device: Device, room: usize, line: &[u8], from: usize)
     if m > 4096 {
         return malformed();
     }
-    print_reading(device, room, &signature[..n], &image[..m]);
+    print_walk_or_read(device, walks, room, &signature[..n], &image[..m]);
 }
 
 // What the program `image` prints for the list after the first space of a line.
@@ -125,8 +141,9 @@ fn run(line: &[u8])
         return malformed();
     }
     match word {
-        b'r' => run_read(device, room.value, line, room.end),
+        b'r' => run_walk_or_read(device, false, room.value, line, room.end),
         b's' => run_show(room.value, line, room.end),
+        b'v' => run_walk_or_read(device, true, room.value, line, room.end),
         b'w' => run_write(device, room.value, line, room.end),
         _ => malformed(),
     }

@@ -96,7 +96,7 @@ pub data WriterRefuses (list : List ℕ) (room r place j : ℕ) : Type 0 where
   -- 7, "output buffer shorter than the result"
   short-buffer : (ks : List ℕ) → Accepted true list ks → room < imageBytes ks → r ≡ 7 → place ≡ 0 → j ≡ 0 → WriterRefuses list room r place j
 
--- An image under an accepted signature is refused, where n bytes are to be answered, into a buffer with so many.
+-- An image under an accepted signature is refused, where n bytes are to be answered into a buffer of `room` bytes.
 pub data ImageRefuses (sig img : List ℕ) (n room r place j : ℕ) : Type 0 where
   -- 6, "image length is not 32 + A"
   wrong-length : (length img ≡ imageBytes sig → ⊥) → r ≡ 6 → place ≡ 0 → j ≡ 0 → ImageRefuses sig img n room r place j

@@ -39,7 +39,7 @@ pub fn is_proper(image: &[u8], place: Placement) -> bool
 }
 
 // Bytes at an offset: those below 16 from the register words, the rest from the area.
-fn get_plain(image: &[u8], o: usize, out: &mut [u8], to: usize, size: usize)
+pub fn get_plain(image: &[u8], o: usize, out: &mut [u8], to: usize, size: usize)
     requires { ⌜ (48 ≤ length (now image)) × (32 + (o + size) ≤ length (now image)) ⌝ }
     requires { ⌜ to + size ≤ length (now out) ⌝ }
     ensures { λ _. ⌜ now (out .exit) ≡ put (now (out .entry)) (run to size) (gather (now (image .entry)) (map carrier (run o size))) ⌝ }

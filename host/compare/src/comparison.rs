@@ -4,9 +4,12 @@ use std::hint::black_box;
 use std::ops::RangeInclusive;
 
 use model::{Answer, Layout};
-use o32::{raw, Device};
+use o32::{raw, Device, LIST_MAX};
 
+use crate::coverage::{Coverage, Operation};
 use crate::guarded::{Guarded, Noise};
+use crate::readers::{bodies_behind_marker, Inputs, Reader};
+use crate::report::{answer_text, answers, difference, hex};
 use crate::rng::Rng;
 
 /// Failing inputs that are shown of each group; the rest is only counted.
@@ -15,8 +18,11 @@ const REPORTS_OF_A_GROUP: usize = 2;
 /// Failing inputs that are shown in all.
 const REPORTS: usize = 10;
 
-/// Success and the refusals 1 to 14.
-const ANSWERS: usize = 15;
+/// The refusals that a signature's records lead to.
+const SIGNATURE_REFUSALS: RangeInclusive<u32> = 1..=5;
+
+/// The refusal of a walk under a signature without a marker.
+const NO_MARKER: u32 = 15;
 
 /// With a floating-point unit and without one.
 pub const DEVICES: [Device; 2] = [Device::Fpu, Device::NoFpu];
@@ -35,14 +41,13 @@ impl Code {
 /// Counts comparisons and keeps the first failures.
 pub struct Comparison {
     noise: Noise,
-    group: &'static str,
+    group: String,
     /// What the group's comparisons are for.
     device: Device,
     failed_in_group: usize,
     passed: u64,
     failed: u64,
-    /// How often the model gave each refusal on each device, success being 0.
-    seen: [[u64; ANSWERS]; DEVICES.len()],
+    coverage: Coverage,
     reports: Vec<String>,
 }
 
@@ -50,19 +55,19 @@ impl Comparison {
     pub fn new(seed: u64) -> Self {
         Comparison {
             noise: Noise::new(Rng::for_part(seed, "noise")),
-            group: "",
+            group: String::new(),
             device: Device::Fpu,
             failed_in_group: 0,
             passed: 0,
             failed: 0,
-            seen: [[0; ANSWERS]; DEVICES.len()],
+            coverage: Coverage::default(),
             reports: Vec::new(),
         }
     }
 
     /// Starts a group of comparisons for one device.
-    pub fn start_group(&mut self, name: &'static str, device: Device) {
-        self.group = name;
+    pub fn start_group(&mut self, name: &str, device: Device) {
+        self.group = String::from(name);
         self.device = device;
         self.failed_in_group = 0;
     }
@@ -88,28 +93,20 @@ impl Comparison {
         &self.reports
     }
 
-    /// Fails for every answer of a device that no input has led to.
+    pub fn coverage(&self) -> &Coverage {
+        &self.coverage
+    }
+
+    /// Fails for every answer that no input has led to.
     pub fn check_coverage(&mut self) {
         for device in DEVICES {
             self.start_group("coverage", device);
-            for refusal in answers_on(device) {
-                if self.seen[device as usize][refusal] == 0 {
-                    self.fail(|| format!("no input is answered with refusal {refusal}"));
+            for operation in Operation::ALL {
+                for answer in self.coverage.missing(operation, device) {
+                    self.fail(|| format!("{operation:?}: no input is answered with {answer}"));
                 }
             }
         }
-    }
-
-    /// How often each answer was expected on a device.
-    pub fn answers_text(&self, device: Device) -> String {
-        let seen = self.seen[device as usize];
-        answers_on(device)
-            .map(|number| match number {
-                0 => format!("{} accepted", seen[0]),
-                _ => format!("{} refused {number}", seen[number]),
-            })
-            .collect::<Vec<_>>()
-            .join(", ")
     }
 
     /// Compares the writers on a list and an image buffer of `room` bytes.
@@ -125,7 +122,7 @@ impl Comparison {
         let expected = model::write(model_device(self.device), list, expected_output.bytes_mut());
 
         let agrees = answer == expected && output == expected_output && input == input_before;
-        self.count(expected.refusal, agrees, || {
+        self.count(Operation::Write, expected.refusal, agrees, || {
             [
                 format!("list {}", hex(list)),
                 format!("image buffer of {room} bytes"),
@@ -137,43 +134,67 @@ impl Comparison {
         });
     }
 
-    /// Compares the readers on a signature, an image and a list buffer of
-    /// `room` bytes.
-    pub fn read(&mut self, signature: &[u8], image: &[u8], room: usize) {
-        let mut kinds = self.noise.around(signature);
-        let kinds_before = kinds.clone();
-        let mut input = self.noise.around(image);
-        let input_before = input.clone();
+    /// Compares a reader with the model's on a signature, an image and an
+    /// output buffer of `room` bytes.
+    pub fn read(&mut self, reader: Reader, signature: &[u8], image: &[u8], room: usize) {
+        let mut inputs = Inputs::new(&mut self.noise, signature, image);
         let mut output = self.noise.buffer(room);
         let mut expected_output = output.clone();
+        let answer = inputs.read(reader, self.device, &mut output);
+        let expected = reader.model(self.device, signature, image, expected_output.bytes_mut());
 
-        let answer = answer_of(raw::read(
-            self.device,
-            kinds.bytes(),
-            input.bytes(),
-            output.bytes_mut(),
-        ));
-        black_box((&mut kinds, &mut input));
-        let expected = model::read(
-            model_device(self.device),
-            signature,
-            image,
-            expected_output.bytes_mut(),
-        );
-
-        let agrees = answer == expected
-            && output == expected_output
-            && kinds == kinds_before
-            && input == input_before;
-        self.count(expected.refusal, agrees, || {
+        let agrees = answer == expected && output == expected_output && inputs.unchanged();
+        self.count(reader.operation(), expected.refusal, agrees, || {
             [
-                format!("signature {}", hex(signature)),
-                format!("image {}", hex(image)),
-                format!("list buffer of {room} bytes"),
+                inputs.text(),
+                format!("output buffer of {room} bytes"),
                 answers(&expected, &answer),
-                difference("list buffer", &expected_output, &output),
-                difference("signature", &kinds_before, &kinds),
-                difference("image", &input_before, &input),
+                difference("output buffer", &expected_output, &output),
+            ]
+            .join("\n  ")
+        });
+    }
+
+    /// Asks that the library walks an image as it reads it: the bodies behind
+    /// the marker are those of its own reading, and the refusals are the same
+    /// unless the marker is missing.
+    pub fn walk_as_read(&mut self, signature: &[u8], image: &[u8]) {
+        let mut inputs = Inputs::new(&mut self.noise, signature, image);
+        let mut reading = self.noise.buffer(LIST_MAX);
+        let read = inputs.read(Reader::Read, self.device, &mut reading);
+        let mut output = self.noise.buffer(LIST_MAX);
+        let mut expected_output = output.clone();
+        let expected = walk_after(&read, signature, &reading, &mut expected_output);
+        let answer = inputs.read(Reader::Walk, self.device, &mut output);
+
+        let agrees = answer == expected && output == expected_output && inputs.unchanged();
+        self.judge(agrees, || {
+            [
+                inputs.text(),
+                format!("read: {}", answer_text(&read)),
+                answers(&expected, &answer),
+                difference("output buffer", &expected_output, &output),
+            ]
+            .join("\n  ")
+        });
+    }
+
+    /// Asks that the library walks alike on both devices.
+    pub fn walk_on_both_devices(&mut self, signature: &[u8], image: &[u8], room: usize) {
+        let mut inputs = Inputs::new(&mut self.noise, signature, image);
+        let before = self.noise.buffer(room);
+        let [with_unit, without_unit] = DEVICES.map(|device| {
+            let mut output = before.clone();
+            let answer = inputs.read(Reader::Walk, device, &mut output);
+            (answer, output)
+        });
+
+        self.judge(with_unit == without_unit && inputs.unchanged(), || {
+            [
+                inputs.text(),
+                format!("output buffer of {room} bytes"),
+                answers(&with_unit.0, &without_unit.0),
+                difference("output buffer", &with_unit.1, &without_unit.1),
             ]
             .join("\n  ")
         });
@@ -199,7 +220,7 @@ impl Comparison {
         let agrees = written == success(carried.len())
             && read == success(list.len())
             && reading.bytes() == list;
-        self.count(0, agrees, || {
+        self.judge(agrees, || {
             [
                 format!("list {}", hex(list)),
                 format!("written: {}", answer_text(&written)),
@@ -215,9 +236,12 @@ impl Comparison {
     pub fn frame(&mut self, request: raw::Request) {
         let layout = layout_of(raw::frame(self.device, request));
         let expected = model::frame(model_device(self.device), model_request(request));
-        self.count(expected.refusal, layout == expected, || {
-            format!("{request:X?}\n  expected {expected:?}\n  answered {layout:?}")
-        });
+        self.count(
+            Operation::Frame,
+            expected.refusal,
+            layout == expected,
+            || format!("{request:X?}\n  expected {expected:?}\n  answered {layout:?}"),
+        );
     }
 
     /// Compares a frame's code for a code buffer of `room` bytes.
@@ -231,7 +255,7 @@ impl Comparison {
         let expected = model_code(code, self.device, request, expected_output.bytes_mut());
 
         let agrees = answer == expected && output == expected_output;
-        self.count(expected.refusal, agrees, || {
+        self.count(Operation::Code, expected.refusal, agrees, || {
             [
                 format!("{code:?}, {request:X?}"),
                 format!("code buffer of {room} bytes"),
@@ -242,9 +266,19 @@ impl Comparison {
         });
     }
 
-    /// Counts a comparison by the refusal that was expected.
-    fn count(&mut self, expected: u32, agrees: bool, report: impl FnOnce() -> String) {
-        self.seen[self.device as usize][expected as usize] += 1;
+    /// Counts a comparison, and the answer of the model.
+    fn count(
+        &mut self,
+        operation: Operation,
+        expected: u32,
+        agrees: bool,
+        report: impl FnOnce() -> String,
+    ) {
+        self.coverage.count(operation, self.device, expected);
+        self.judge(agrees, report);
+    }
+
+    fn judge(&mut self, agrees: bool, report: impl FnOnce() -> String) {
         if agrees {
             self.passed += 1;
         } else {
@@ -280,15 +314,6 @@ pub fn model_device(device: Device) -> model::Device {
     }
 }
 
-/// The answers that a device has: refusal 14 is only for the one without a
-/// unit.
-fn answers_on(device: Device) -> RangeInclusive<usize> {
-    match device {
-        Device::Fpu => 0..=13,
-        Device::NoFpu => 0..=14,
-    }
-}
-
 fn model_request(request: raw::Request) -> model::Request {
     model::Request {
         leaf: request.leaf != 0,
@@ -299,7 +324,7 @@ fn model_request(request: raw::Request) -> model::Request {
     }
 }
 
-fn answer_of(answer: raw::Answer) -> Answer {
+pub fn answer_of(answer: raw::Answer) -> Answer {
     let raw::Answer {
         refusal,
         place,
@@ -343,43 +368,28 @@ fn overwrite_holes(image: &mut [u8], noise: &[u8], carried: &[u8]) {
     }
 }
 
+/// What a walk must answer and leave in its buffer where the reader answered
+/// `read`, with room enough for both.
+fn walk_after(read: &Answer, signature: &[u8], reading: &Guarded, output: &mut Guarded) -> Answer {
+    if SIGNATURE_REFUSALS.contains(&read.refusal) {
+        return *read;
+    }
+    let Some(bodies) = bodies_behind_marker(signature, reading.bytes()) else {
+        return Answer {
+            refusal: NO_MARKER,
+            ..Answer::default()
+        };
+    };
+    if read.refusal != 0 {
+        return *read;
+    }
+    output.bytes_mut()[..bodies.len()].copy_from_slice(&bodies);
+    success(bodies.len())
+}
+
 fn success(length: usize) -> Answer {
     Answer {
         length: length as u32,
         ..Answer::default()
     }
-}
-
-fn answer_text(answer: &Answer) -> String {
-    format!(
-        "refusal {}, place {}, argument {}, length {}",
-        answer.refusal, answer.place, answer.argument, answer.length
-    )
-}
-
-fn answers(expected: &Answer, answer: &Answer) -> String {
-    format!(
-        "expected {}\n  answered {}",
-        answer_text(expected),
-        answer_text(answer)
-    )
-}
-
-fn difference(name: &str, expected: &Guarded, found: &Guarded) -> String {
-    match expected.first_difference(found) {
-        None => format!("{name} as expected"),
-        Some(at) => format!(
-            "{name} of {} bytes differs first at {at}: expected {:02X}, found {:02X}",
-            expected.bytes().len(),
-            expected.byte_at(at),
-            found.byte_at(at)
-        ),
-    }
-}
-
-fn hex(bytes: &[u8]) -> String {
-    if bytes.is_empty() {
-        return String::from("(empty)");
-    }
-    bytes.iter().map(|byte| format!("{byte:02X}")).collect()
 }

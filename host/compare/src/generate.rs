@@ -101,6 +101,16 @@ pub fn accepted_signature(rng: &mut Rng, shape: Shape) -> Vec<u8> {
     signature
 }
 
+/// Likewise, most of the time with a marker.
+pub fn variadic_signature(rng: &mut Rng, shape: Shape) -> Vec<u8> {
+    let mut signature = accepted_signature(rng, shape);
+    // A place may be none for a marker, and a second marker is never put in.
+    for _ in 0..3 {
+        insert_marker(rng, &mut signature);
+    }
+    signature
+}
+
 /// Perhaps a return pointer, perhaps a float, then as many of the arguments as
 /// are accepted.
 fn signature_from(rng: &mut Rng, arguments: usize, kind: fn(&mut Rng) -> u8) -> Vec<u8> {
@@ -248,6 +258,14 @@ pub fn fill_holes(rng: &mut Rng, image: &mut [u8], carried: &[u8]) {
     }
 }
 
+/// The image of a list with random bodies and random bytes in its holes. The
+/// floating words are holes where there is no floating-point unit.
+pub fn written_image(rng: &mut Rng, device: Device, signature: &[u8]) -> Vec<u8> {
+    let mut image = image_of(device, &list_of(rng, signature));
+    fill_holes(rng, &mut image, &carried_bytes(device, signature));
+    image
+}
+
 /// An image with random bytes. Many words are small or sign-extended, so that
 /// promotions are often proper.
 pub fn random_image(rng: &mut Rng, length: usize) -> Vec<u8> {
@@ -262,6 +280,13 @@ pub fn random_image(rng: &mut Rng, length: usize) -> Vec<u8> {
         }
     }
     image
+}
+
+/// Changes one byte of an image, most of the time by one bit.
+pub fn flip(rng: &mut Rng, image: &mut [u8]) {
+    let at = rng.below(image.len());
+    let bit = 1 << rng.below(8);
+    image[at] ^= rng.pick(&[bit, bit, 0x80, 0xFF]);
 }
 
 /// Damages a list or signature: a byte changed, cut off or put in. `kinds` are

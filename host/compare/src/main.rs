@@ -6,24 +6,33 @@
 //! `compare [SEED]`, decimal or `0x...`.
 
 mod comparison;
+mod coverage;
 mod frames;
 mod generate;
 mod guarded;
 mod images;
 mod lists;
+mod readers;
+mod report;
 mod rng;
+mod walks;
 
 use std::env;
 use std::process::ExitCode;
 
 use comparison::{Comparison, DEVICES};
+use coverage::{Coverage, Operation};
+use readers::Reader;
 use rng::Rng;
 
 const DEFAULT_SEED: u64 = 0x0032_0032_0032_0032;
 
 type Group = (&'static str, fn(&mut Comparison, &mut Rng));
 
-const GROUPS: [Group; 26] = [
+/// A group that is made for each of the two readers.
+type ReaderGroup = (&'static str, fn(&mut Comparison, &mut Rng, Reader));
+
+const WRITING: [Group; 11] = [
     ("write, lists of 0, 1 and 2 bytes", lists::shortest),
     ("write, lists of 3 bytes", lists::of_three_bytes),
     ("write, accepted lists", lists::usual),
@@ -38,22 +47,30 @@ const GROUPS: [Group; 26] = [
     ("write, noise", lists::of_noise),
     ("write, buffer lengths", lists::buffers),
     ("write, long lists and buffers", lists::long),
-    ("read, signatures of 0, 1 and 2 kinds", images::shortest),
-    ("read, signatures of 3 kinds", images::of_three_kinds),
-    (
-        "read, written images with noise in their holes",
-        images::written,
-    ),
-    ("read, random images", images::random),
-    ("read, images with a flipped byte", images::flipped),
-    ("read, wrong image lengths", images::of_wrong_length),
-    ("read, damaged signatures", images::damaged_signatures),
-    (
-        "read, signatures beyond the limits",
-        images::beyond_the_limits,
-    ),
-    ("read, buffer lengths", images::buffers),
-    ("read, long signatures, images and buffers", images::long),
+];
+
+const READING: [ReaderGroup; 10] = [
+    ("signatures of 0, 1 and 2 kinds", images::shortest),
+    ("signatures of 3 kinds", images::of_three_kinds),
+    ("written images with noise in their holes", images::written),
+    ("random images", images::random),
+    ("images with a flipped byte", images::flipped),
+    ("wrong image lengths", images::of_wrong_length),
+    ("damaged signatures", images::damaged_signatures),
+    ("signatures beyond the limits", images::beyond_the_limits),
+    ("buffer lengths", images::buffers),
+    ("long signatures, images and buffers", images::long),
+];
+
+/// Groups that only one of the two readers has.
+const READING_ALONE: [Group; 4] = [
+    ("read, what the library has written", images::round_trips),
+    ("walk, two kinds and a marker", walks::around_the_marker),
+    ("walk, as the library reads", walks::as_read),
+    ("walk, on both devices", walks::on_both_devices),
+];
+
+const FRAMES: [Group; 5] = [
     ("frame, limits", frames::at_the_limits),
     (
         "frame, masks of up to two registers, all pairs",
@@ -76,14 +93,9 @@ fn main() -> ExitCode {
     println!("seed: {seed:#018X}");
 
     let mut comparison = Comparison::new(seed);
-    for group in GROUPS {
-        run_group(&mut comparison, seed, group);
-    }
+    run_groups(&mut comparison, seed);
     comparison.check_coverage();
-    for device in DEVICES {
-        let answers = comparison.answers_text(device);
-        println!("answers compared, {device:?}: {answers}");
-    }
+    print_answers(comparison.coverage());
     for report in comparison.reports() {
         println!("FAILED {report}");
     }
@@ -99,13 +111,44 @@ fn main() -> ExitCode {
     }
 }
 
-fn run_group(comparison: &mut Comparison, seed: u64, (name, group): Group) {
+fn run_groups(comparison: &mut Comparison, seed: u64) {
+    for (name, group) in WRITING {
+        run_group(comparison, seed, name, group);
+    }
+    for reader in Reader::BOTH {
+        for (name, group) in READING {
+            let name = format!("{}, {name}", reader.name());
+            run_group(comparison, seed, &name, |comparison, rng| {
+                group(comparison, rng, reader)
+            });
+        }
+    }
+    for (name, group) in READING_ALONE.into_iter().chain(FRAMES) {
+        run_group(comparison, seed, name, group);
+    }
+}
+
+fn run_group(
+    comparison: &mut Comparison,
+    seed: u64,
+    name: &str,
+    group: impl Fn(&mut Comparison, &mut Rng),
+) {
     let before = comparison.total();
     for device in DEVICES {
         comparison.start_group(name, device);
         group(comparison, &mut Rng::for_part(seed, name));
     }
     println!("{name}: {} comparisons", comparison.total() - before);
+}
+
+fn print_answers(coverage: &Coverage) {
+    for device in DEVICES {
+        for operation in Operation::ALL {
+            let answers = coverage.text(operation, device);
+            println!("answers compared, {device:?}, {operation:?}: {answers}");
+        }
+    }
 }
 
 fn parse_seed(text: &str) -> Option<u64> {

@@ -16,7 +16,7 @@ pub fn read(device: Device, signature: &[u8], image: &[u8], list: &mut [u8]) -> 
 
 fn write_image(device: Device, list: &[u8], image: &mut [u8]) -> Result<usize, Refusal> {
     let plan = Plan::of_list(device, list)?;
-    let length = plan.lengths().image;
+    let length = plan.image_length();
     let image = image
         .get_mut(..length)
         .ok_or(Refusal::nowhere(Refusal::SHORT_OUTPUT))?;
@@ -43,19 +43,8 @@ fn read_image(
     list: &mut [u8],
 ) -> Result<usize, Refusal> {
     let plan = Plan::of_signature(device, signature)?;
-    let lengths = plan.lengths();
-    if image.len() != lengths.image {
-        return Err(Refusal::nowhere(Refusal::IMAGE_LENGTH));
-    }
-    let list = list
-        .get_mut(..lengths.list)
-        .ok_or(Refusal::nowhere(Refusal::SHORT_OUTPUT))?;
-    // Nothing may be written before every word has been looked at.
-    for record in plan.records() {
-        check_promotion(record, image)?;
-    }
-
-    let mut rest = list;
+    let length = plan.lengths().list;
+    let mut rest = checked_output(&plan, image, length, list)?;
     for record in plan.records() {
         let (head, tail) = rest.split_at_mut(1 + record.kind.body());
         let (kind_byte, body) = head.split_at_mut(1);
@@ -63,7 +52,27 @@ fn read_image(
         take_body(record, image, body);
         rest = tail;
     }
-    Ok(lengths.list)
+    Ok(length)
+}
+
+/// The first `length` bytes of `output`, unless the image or the output is
+/// refused. Nothing may be written before every word has been looked at.
+pub(crate) fn checked_output<'a>(
+    plan: &Plan,
+    image: &[u8],
+    length: usize,
+    output: &'a mut [u8],
+) -> Result<&'a mut [u8], Refusal> {
+    if image.len() != plan.image_length() {
+        return Err(Refusal::nowhere(Refusal::IMAGE_LENGTH));
+    }
+    let output = output
+        .get_mut(..length)
+        .ok_or(Refusal::nowhere(Refusal::SHORT_OUTPUT))?;
+    for record in plan.records() {
+        check_promotion(record, image)?;
+    }
+    Ok(output)
 }
 
 /// Refuses a word of a byte or halfword that promotion can't have made.

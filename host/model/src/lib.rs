@@ -1,6 +1,6 @@
 //! Call images and frames of the MIPS O32 convention in ordinary Rust.
 //!
-//! This is the yardstick for the proved library: the same five operations with
+//! This is the yardstick for the proved library: the same six operations with
 //! the same answers, written from the rules alone. Every operation checks
 //! first and writes into the caller's buffer only when nothing refuses.
 
@@ -9,9 +9,11 @@ mod image;
 mod kind;
 mod placement;
 mod records;
+mod walker;
 
 pub use frame::{epilogue, frame, prologue, Layout, Request};
 pub use image::{read, write};
+pub use walker::walk;
 
 use records::Plan;
 
@@ -24,7 +26,7 @@ pub enum Device {
     NoFpu,
 }
 
-/// What a writer, a reader or a code writer answers.
+/// What a writer, a reader, the walker or a code writer answers.
 #[derive(Clone, Copy, Debug, Default, PartialEq, Eq)]
 pub struct Answer {
     /// 0 on success, otherwise the number of the refusal.
@@ -78,6 +80,7 @@ impl Refusal {
     pub(crate) const OUTGOING: u32 = 12;
     pub(crate) const SHORT_CODE: u32 = 13;
     pub(crate) const PAIRS_WITHOUT_UNIT: u32 = 14;
+    pub(crate) const NO_MARKER: u32 = 15;
 
     pub(crate) fn at(number: u32, place: usize, argument: u32) -> Self {
         Refusal {

@@ -7,7 +7,7 @@ use crate::Device;
 pub(crate) const REGISTER_BYTES: usize = 32;
 
 /// Argument bytes below this offset are carried by `$4` to `$7`.
-const GENERAL_BYTES: usize = 16;
+pub(crate) const GENERAL_BYTES: usize = 16;
 
 /// Where the argument area's first bytes on the stack lie in the image.
 const STACK_START: usize = REGISTER_BYTES + GENERAL_BYTES;
@@ -167,7 +167,7 @@ impl ArgumentArea {
 }
 
 /// The next multiple of an alignment, which is a power of two.
-fn align_up(offset: usize, alignment: usize) -> usize {
+pub(crate) fn align_up(offset: usize, alignment: usize) -> usize {
     (offset + alignment - 1) & !(alignment - 1)
 }
 

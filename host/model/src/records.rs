@@ -74,10 +74,14 @@ impl Plan {
         &self.records[..self.count]
     }
 
+    pub(crate) fn image_length(&self) -> usize {
+        REGISTER_BYTES + self.area.size()
+    }
+
     /// The lengths of image and list, the list's with all bodies.
     pub(crate) fn lengths(&self) -> Lengths {
         Lengths {
-            image: REGISTER_BYTES + self.area.size(),
+            image: self.image_length(),
             list: self
                 .records()
                 .iter()

@@ -1,71 +1,12 @@
 //! The cases, edges and examples that the rules spell out.
 
+mod common;
+
 use model::{epilogue, frame, prologue, read, write, Answer, Device, Layout, Request};
 
-use Device::{Fpu, NoFpu};
-
-/// Where a word of the image lies.
-#[derive(Clone, Copy, Debug)]
-enum At {
-    /// `$4` to `$7`.
-    General(usize),
-    /// `$f12` to `$f15`.
-    Floating(usize),
-    /// An offset of the argument area.
-    Stack(usize),
-}
-
+use common::{hex, image_of, on_both_devices, refused, success, At};
 use At::{Floating as F, General as R, Stack};
-
-impl At {
-    fn word(self) -> usize {
-        match self {
-            At::General(number) => number - 4,
-            At::Floating(number) => number - 12 + 4,
-            At::Stack(offset) => 8 + offset / 4,
-        }
-    }
-}
-
-/// Bytes from hexadecimal digits; spaces don't count.
-fn hex(text: &str) -> Vec<u8> {
-    let digits: Vec<u8> = text
-        .chars()
-        .filter(|c| !c.is_whitespace())
-        .map(|c| c.to_digit(16).expect("a hexadecimal digit") as u8)
-        .collect();
-    digits
-        .chunks(2)
-        .map(|pair| pair[0] << 4 | pair[1])
-        .collect()
-}
-
-/// The image of an area of `area` bytes with the given words, zero elsewhere.
-fn image_of(area: usize, words: &[(At, u32)]) -> Vec<u8> {
-    let mut image = vec![0; 8 + area / 4];
-    for &(at, word) in words {
-        image[at.word()] = word;
-    }
-    image.iter().flat_map(|word| word.to_be_bytes()).collect()
-}
-
-fn success(length: usize) -> Answer {
-    Answer {
-        refusal: 0,
-        place: 0,
-        argument: 0,
-        length: length as u32,
-    }
-}
-
-fn refused(refusal: u32, place: u32, argument: u32) -> Answer {
-    Answer {
-        refusal,
-        place,
-        argument,
-        length: 0,
-    }
-}
+use Device::{Fpu, NoFpu};
 
 /// Writes into a buffer that is larger than any image and gives the image.
 fn written(device: Device, list: &[u8]) -> Vec<u8> {
@@ -86,13 +27,6 @@ fn read_back(device: Device, signature: &[u8], image: &[u8]) -> Vec<u8> {
     let (list, beyond) = buffer.split_at(length);
     assert!(beyond.iter().all(|&byte| byte == 0xA5));
     list.to_vec()
-}
-
-/// The refusals of lists and signatures are the same on both devices.
-fn on_both_devices(answer_on: impl Fn(Device) -> Answer) -> Answer {
-    let answer = answer_on(Fpu);
-    assert_eq!(answer_on(NoFpu), answer);
-    answer
 }
 
 fn write_refusal(list: &[u8]) -> Answer {

@@ -4,8 +4,10 @@
 //! contracts say, for every input. [`write()`] turns a list of arguments into a
 //! call image, the contents of the argument registers and of the stack's
 //! argument area at the moment of the call, and [`read()`] reads such an image
-//! back. [`layout`] lays out a routine's stack frame; [`prologue`] and
-//! [`epilogue`] write the instructions that set it up and take it down.
+//! back. [`walk`] takes the arguments behind an ellipsis from an image, as the
+//! called routine does. [`layout`] lays out a routine's stack frame;
+//! [`prologue`] and [`epilogue`] write the instructions that set it up and take
+//! it down.
 //!
 //! Any bytes, numbers and buffer lengths may be given: what can't be done is
 //! refused with its [`Refusal`], and then the buffer keeps every byte. On
@@ -96,13 +98,16 @@ pub use refusal::Refusal;
 
 /// The version of the library's interface that this crate is written for, as
 /// `O32_VERSION` in C.
-pub const VERSION: u32 = 1;
+pub const VERSION: u32 = 2;
 
 /// Bytes of the longest list that is accepted.
 pub const LIST_MAX: usize = 1057;
 
 /// Bytes of the longest image.
 pub const IMAGE_MAX: usize = 1056;
+
+/// The most bytes of bodies behind a marker.
+pub const BODIES_MAX: usize = 1020;
 
 /// Bytes of the longest prologue.
 pub const PROLOGUE_MAX: usize = 92;
@@ -238,6 +243,54 @@ pub fn read<'a>(
     Ok(&list[..length])
 }
 
+/// Writes what a routine with an ellipsis takes from an image behind the marker
+/// of a signature to the start of `bodies`, and gives it back: the arguments'
+/// bodies end to end, without their kinds.
+///
+/// This is to check, before an image is loaded, what the routine will see. Such
+/// a routine stores `$4` to `$7` in their homes and goes through memory from the
+/// end of the last argument before the marker, asking for one kind at a time. On
+/// an image that [`read()`] accepts, these are the bodies that it gives for the
+/// arguments behind the marker. Those before the marker are not offered: a float
+/// there may have an empty home.
+///
+/// A buffer of [`BODIES_MAX`] bytes is always enough; where the marker comes
+/// last, nothing is written. `image` has the image's exact length. Refuses 1 to
+/// 3, 5 to 8 and 15; 8 also for arguments before the marker.
+///
+/// ```
+/// use o32::{Device, Refusal, BODIES_MAX, IMAGE_MAX};
+///
+/// fn main() -> Result<(), Refusal> {
+///     // The single 1.0, the marker, and the double 2.0.
+///     let list = [0x07, 0x3F, 0x80, 0, 0, 0x0A, 0x08, 0x40, 0, 0, 0, 0, 0, 0, 0];
+///     let mut buffer = [0; IMAGE_MAX];
+///     let image = o32::write(Device::Fpu, &list, &mut buffer)?;
+///
+///     // The single ends at offset 4, the double lies at 8: in $6 and $7.
+///     let mut buffer = [0; BODIES_MAX];
+///     let bodies = o32::walk(Device::Fpu, &[0x07, 0x0A, 0x08], image, &mut buffer)?;
+///     assert_eq!(bodies, 2.0f64.to_be_bytes());
+///
+///     assert_eq!(
+///         o32::walk(Device::Fpu, &[0x07, 0x08], image, &mut buffer),
+///         Err(Refusal::NoMarker)
+///     );
+///     Ok(())
+/// }
+/// ```
+#[inline]
+pub fn walk<'a>(
+    device: Device,
+    signature: &[u8],
+    image: &[u8],
+    bodies: &'a mut [u8],
+) -> Result<&'a [u8], Refusal> {
+    check_version();
+    let length = length_of(raw::walk(device, signature, image, bodies))?;
+    Ok(&bodies[..length])
+}
+
 /// Lays out a frame. Refuses 9 to 12 and 14.
 ///
 /// ```
@@ -340,7 +393,7 @@ pub fn epilogue(device: Device, request: Request, code: &mut [u8]) -> Result<&[u
     Ok(&code[..length])
 }
 
-/// The structs of another version have other numbers, or the same in another
+/// The structs of another version may have other numbers, or the same in another
 /// order: a refusal could then pass for a success, or a place for a length.
 #[inline]
 fn check_version() {

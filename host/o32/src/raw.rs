@@ -11,7 +11,7 @@
 
 use crate::Device;
 
-/// What a writer, a reader or a code writer answers.
+/// What a writer, a reader, the walker or a code writer answers.
 #[must_use = "the buffer has no result if this is a refusal"]
 #[repr(C)]
 #[derive(Clone, Copy, Debug, Default, PartialEq, Eq)]
@@ -88,6 +88,16 @@ mod capi {
             list_len: usize,
         ) -> Answer;
 
+        pub fn o32_walk(
+            device: u32,
+            signature: *const u8,
+            signature_len: usize,
+            image: *const u8,
+            image_len: usize,
+            bodies: *mut u8,
+            bodies_len: usize,
+        ) -> Answer;
+
         pub fn o32_frame(
             device: u32,
             leaf: u32,
@@ -158,6 +168,24 @@ pub fn read(device: Device, signature: &[u8], image: &[u8], list: &mut [u8]) -> 
             image.len(),
             list.as_mut_ptr(),
             list.len(),
+        )
+    }
+}
+
+/// Takes the arguments behind the marker as a routine with an ellipsis does, and
+/// puts their bodies end to end at the start of `bodies`.
+#[inline]
+pub fn walk(device: Device, signature: &[u8], image: &[u8], bodies: &mut [u8]) -> Answer {
+    // SAFETY: as for `read`.
+    unsafe {
+        capi::o32_walk(
+            device as u32,
+            signature.as_ptr(),
+            signature.len(),
+            image.as_ptr(),
+            image.len(),
+            bodies.as_mut_ptr(),
+            bodies.len(),
         )
     }
 }

@@ -9,29 +9,31 @@ use core::fmt;
 ///
 /// | number | refused by | variant | place | argument |
 /// |---:|---|---|---|---|
-/// | 1 | write, read | [`UnknownKind`](Self::UnknownKind) | yes | |
-/// | 2 | write, read | [`MisplacedMarker`](Self::MisplacedMarker) | yes | |
-/// | 2 | write, read | [`MisplacedReturnPointer`](Self::MisplacedReturnPointer) | yes | yes |
-/// | 3 | write, read | [`TooManyArguments`](Self::TooManyArguments) | yes | yes |
+/// | 1 | write, read, walk | [`UnknownKind`](Self::UnknownKind) | yes | |
+/// | 2 | write, read, walk | [`MisplacedMarker`](Self::MisplacedMarker) | yes | |
+/// | 2 | write, read, walk | [`MisplacedReturnPointer`](Self::MisplacedReturnPointer) | yes | yes |
+/// | 3 | write, read, walk | [`TooManyArguments`](Self::TooManyArguments) | yes | yes |
 /// | 4 | write | [`BodyCutOff`](Self::BodyCutOff) | yes | yes |
-/// | 5 | write, read | [`BeyondLimit`](Self::BeyondLimit) | yes | yes |
-/// | 6 | read | [`ImageLength`](Self::ImageLength) | | |
-/// | 7 | write, read | [`ShortOutput`](Self::ShortOutput) | | |
-/// | 8 | read | [`NoPromotion`](Self::NoPromotion) | yes | yes |
+/// | 5 | write, read, walk | [`BeyondLimit`](Self::BeyondLimit) | yes | yes |
+/// | 6 | read, walk | [`ImageLength`](Self::ImageLength) | | |
+/// | 7 | write, read, walk | [`ShortOutput`](Self::ShortOutput) | | |
+/// | 8 | read, walk | [`NoPromotion`](Self::NoPromotion) | yes | yes |
 /// | 9 | layout, prologue, epilogue | [`Masks`](Self::Masks) | | |
 /// | 10 | layout, prologue, epilogue | [`ReturnAddressNotSaved`](Self::ReturnAddressNotSaved) | | |
 /// | 11 | layout, prologue, epilogue | [`Locals`](Self::Locals) | | |
 /// | 12 | layout, prologue, epilogue | [`Outgoing`](Self::Outgoing) | | |
 /// | 13 | prologue, epilogue | [`ShortCode`](Self::ShortCode) | | |
 /// | 14 | layout, prologue, epilogue | [`PairsWithoutUnit`](Self::PairsWithoutUnit) | | |
+/// | 15 | walk | [`NoMarker`](Self::NoMarker) | | |
 ///
-/// Records are checked from left to right, each by 1 to 5 in this order; 6, 7
-/// and 8 follow when all records have passed. The checks of a frame are 9, 14,
-/// 10, 11, 12 and 13, in this order. The first that applies is answered.
+/// Records are checked from left to right, each by 1 to 5 in this order; 15, 6,
+/// 7 and 8 follow in this order when all records have passed. The checks of a
+/// frame are 9, 14, 10, 11, 12 and 13, in this order. The first that applies is
+/// answered.
 ///
 /// A place is the offset of a kind byte in the list that was to be written, or
-/// in the signature that was to be read. An argument is counted from 1; a
-/// return pointer counts, the marker doesn't.
+/// in the signature that an image was to be read under. An argument is counted
+/// from 1; a return pointer counts, the marker doesn't.
 #[non_exhaustive]
 #[derive(Clone, Copy, Debug, PartialEq, Eq, Hash)]
 pub enum Refusal {
@@ -76,7 +78,7 @@ pub enum Refusal {
     },
     /// 6: the image's length isn't the one that the signature asks for.
     ImageLength,
-    /// 7: the output buffer is shorter than the image or the list.
+    /// 7: the output buffer is shorter than the image, the list or the bodies.
     ShortOutput,
     /// 8: the image's word for a byte or halfword (kinds 01 to 04) is none that
     /// promotion gives, such as 00000080 for a signed byte.
@@ -99,6 +101,8 @@ pub enum Refusal {
     ShortCode,
     /// 14: the pair mask isn't 0, and the device has no floating-point unit.
     PairsWithoutUnit,
+    /// 15: the signature has no ellipsis marker.
+    NoMarker,
     /// A number that this crate has no name for. A later version may have one,
     /// so match it with `_`.
     #[non_exhaustive]
@@ -133,6 +137,7 @@ impl Refusal {
             12 => Refusal::Outgoing,
             13 => Refusal::ShortCode,
             14 => Refusal::PairsWithoutUnit,
+            15 => Refusal::NoMarker,
             _ => Refusal::Unknown {
                 number,
                 place,
@@ -158,6 +163,7 @@ impl Refusal {
             Refusal::Outgoing => 12,
             Refusal::ShortCode => 13,
             Refusal::PairsWithoutUnit => 14,
+            Refusal::NoMarker => 15,
             Refusal::Unknown { number, .. } => number,
         }
     }
@@ -216,6 +222,7 @@ impl Refusal {
             Refusal::PairsWithoutUnit => {
                 "floating pairs to save on a device without a floating-point unit"
             }
+            Refusal::NoMarker => "the signature has no ellipsis marker",
             Refusal::Unknown { .. } => "a refusal that this version of the crate does not know",
         }
     }

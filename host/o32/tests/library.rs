@@ -1,7 +1,7 @@
 //! The crate with the library: every refusal by its name, and the sizes of
 //! buffers that are always enough.
 
-use o32::{Device, Refusal, Request, EPILOGUE_MAX, IMAGE_MAX, LIST_MAX, PROLOGUE_MAX};
+use o32::{Device, Refusal, Request, BODIES_MAX, EPILOGUE_MAX, IMAGE_MAX, LIST_MAX, PROLOGUE_MAX};
 
 /// `$16` to `$23`, `$30` and `$31`.
 const ALL_REGISTERS: u32 = 0xC0FF_0000;
@@ -152,6 +152,47 @@ fn a_word_that_is_no_promotion() {
 }
 
 #[test]
+fn a_signature_without_a_marker() {
+    // Refused before the image is looked at; no image has length 0.
+    let refusal = o32::walk(Device::Fpu, &[0x05, 0x05], &[], &mut []).unwrap_err();
+    assert_eq!(refusal, Refusal::NoMarker);
+    assert_parts(refusal, 15, None, None);
+    assert_eq!(
+        refusal.to_string(),
+        "the signature has no ellipsis marker (refusal 15)"
+    );
+}
+
+/// The other refusals of a walk are those of the reader.
+#[test]
+fn walks_that_are_refused() {
+    let mut image = [0; 48];
+    image[2] = 1;
+    for (signature, refusal) in [
+        (&[0x05, 0x0A, 0x09][..], Refusal::UnknownKind { place: 2 }),
+        (&[0x05, 0x0A, 0x53], Refusal::ImageLength),
+        (&[0x05, 0x0A, 0x08, 0x05], Refusal::ImageLength),
+        (&[0x05, 0x0A, 0x08], Refusal::ShortOutput),
+        (
+            &[0x01, 0x0A, 0x05],
+            Refusal::NoPromotion {
+                place: 0,
+                argument: 1,
+            },
+        ),
+    ] {
+        for device in [Device::Fpu, Device::NoFpu] {
+            let mut bodies = [0xA5; 4];
+            assert_eq!(
+                o32::walk(device, signature, &image, &mut bodies),
+                Err(refusal)
+            );
+            assert_eq!(bodies, [0xA5; 4]);
+        }
+    }
+}
+
+#[test]
 fn requests_that_are_refused() {
     let leaf = Request {
         leaf: true,
@@ -243,6 +284,46 @@ fn the_longest_list_fits_and_no_shorter_buffer_does() {
         o32::read(Device::Fpu, &signature, image, &mut [0; LIST_MAX - 1]),
         Err(Refusal::ShortOutput)
     );
+}
+
+/// A word, the marker, then structures of 320, 320, 320 and 60 bytes.
+#[test]
+fn the_longest_bodies_fit_and_no_shorter_buffer_does() {
+    let signature = [0x05, 0x0A, 0xBF, 0xBF, 0xBF, 0x7B];
+    let image: Vec<u8> = (0..IMAGE_MAX).map(|at| at as u8).collect();
+    // The first words behind the named one are in registers, the others lie
+    // behind the floating registers and the homes.
+    let expected = [&image[4..16], &image[48..]].concat();
+    assert_eq!(expected.len(), BODIES_MAX);
+    for device in [Device::Fpu, Device::NoFpu] {
+        assert_eq!(
+            o32::walk(device, &signature, &image, &mut [0; BODIES_MAX]),
+            Ok(&expected[..])
+        );
+        assert_eq!(
+            o32::walk(device, &signature, &image, &mut [0; BODIES_MAX - 1]),
+            Err(Refusal::ShortOutput)
+        );
+    }
+}
+
+#[test]
+fn a_walk_leaves_the_bytes_behind_its_result() {
+    let mut image = [0xEE; 48];
+    image[4..8].copy_from_slice(&[0xFF, 0xFF, 0xFF, 0x80]);
+    let mut bodies = [0xA5; 3];
+    let signature = [0x07, 0x0A, 0x01];
+    assert_eq!(
+        o32::walk(Device::Fpu, &signature, &image, &mut bodies),
+        Ok(&[0x80][..])
+    );
+    assert_eq!(bodies, [0x80, 0xA5, 0xA5]);
+    // A marker that comes last has nothing behind it.
+    assert_eq!(
+        o32::walk(Device::Fpu, &signature[..2], &image, &mut bodies),
+        Ok(&[][..])
+    );
+    assert_eq!(bodies, [0x80, 0xA5, 0xA5]);
 }
 
 #[test]

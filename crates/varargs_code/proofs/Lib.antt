@@ -1,0 +1,4 @@
+pub mod Seeking
+pub mod Taking
+pub mod Area
+pub mod Answers

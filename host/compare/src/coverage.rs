@@ -1,0 +1,85 @@
+//! Which answers the inputs have led to.
+
+use o32::Device;
+
+use crate::comparison::DEVICES;
+
+/// Success and the refusals 1 to 15.
+const ANSWERS: usize = 16;
+
+/// The refusal that only a device without a floating-point unit gives.
+const PAIRS_WITHOUT_UNIT: usize = 14;
+
+/// What is compared.
+#[derive(Clone, Copy, Debug, PartialEq, Eq)]
+pub enum Operation {
+    Write,
+    Read,
+    Walk,
+    Frame,
+    /// Of a frame: the prologue or the epilogue.
+    Code,
+}
+
+impl Operation {
+    pub const ALL: [Operation; 5] = [
+        Operation::Write,
+        Operation::Read,
+        Operation::Walk,
+        Operation::Frame,
+        Operation::Code,
+    ];
+
+    /// The answers that it has on a device, success being 0.
+    fn answers(self, device: Device) -> impl Iterator<Item = usize> {
+        let answers: &[usize] = match self {
+            Operation::Write => &[0, 1, 2, 3, 4, 5, 7],
+            Operation::Read => &[0, 1, 2, 3, 5, 6, 7, 8],
+            Operation::Walk => &[0, 1, 2, 3, 5, 15, 6, 7, 8],
+            Operation::Frame => &[0, 9, 14, 10, 11, 12],
+            Operation::Code => &[0, 9, 14, 10, 11, 12, 13],
+        };
+        answers
+            .iter()
+            .copied()
+            .filter(move |&answer| answer != PAIRS_WITHOUT_UNIT || device == Device::NoFpu)
+    }
+}
+
+/// How often the model gave each answer.
+#[derive(Default)]
+pub struct Coverage {
+    seen: [[[u64; ANSWERS]; DEVICES.len()]; Operation::ALL.len()],
+}
+
+impl Coverage {
+    pub fn count(&mut self, operation: Operation, device: Device, refusal: u32) {
+        self.seen[operation as usize][device as usize][refusal as usize] += 1;
+    }
+
+    fn seen(&self, operation: Operation, device: Device, answer: usize) -> u64 {
+        self.seen[operation as usize][device as usize][answer]
+    }
+
+    /// The answers of an operation that no input has led to.
+    pub fn missing(&self, operation: Operation, device: Device) -> Vec<usize> {
+        operation
+            .answers(device)
+            .filter(|&answer| self.seen(operation, device, answer) == 0)
+            .collect()
+    }
+
+    /// How often each answer of an operation was expected.
+    pub fn text(&self, operation: Operation, device: Device) -> String {
+        operation
+            .answers(device)
+            .map(
+                |answer| match (answer, self.seen(operation, device, answer)) {
+                    (0, count) => format!("{count} accepted"),
+                    (_, count) => format!("{count} refused {answer}"),
+                },
+            )
+            .collect::<Vec<_>>()
+            .join(", ")
+    }
+}
