@@ -1,3 +1,4 @@
 pub mod KindFacts
 pub mod Table
 pub mod Classes
+pub mod Structures

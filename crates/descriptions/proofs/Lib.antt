@@ -1,0 +1,11 @@
+pub mod Trees
+pub mod Steps
+pub mod Leading
+pub mod Reading
+pub mod Courses
+pub mod Refusals
+pub mod Spellings
+pub mod KindFor
+pub mod Places
+pub mod Cases
+pub mod Theorem

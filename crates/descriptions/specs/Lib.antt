@@ -1,0 +1,5 @@
+pub mod Trees
+pub mod Spelling
+pub mod Describing
+pub mod Beginnings
+pub mod Descriptions
