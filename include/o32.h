@@ -1,7 +1,7 @@
 /*
- * o32.h - call images and frames of the MIPS O32 calling convention.
+ * o32.h - call images, structures and frames of the MIPS O32 convention.
  *
- * Six functions do the work:
+ * Seven functions do the work:
  *
  *   o32_write     turns a list of arguments into a call image: the contents
  *                 of the argument registers and of the stack's argument area
@@ -11,15 +11,18 @@
  *                 as the called routine does;
  *   o32_frame     lays out a function's stack frame;
  *   o32_prologue  writes the instructions that set a frame up;
- *   o32_epilogue  writes those that take it down and return.
+ *   o32_epilogue  writes those that take it down and return;
+ *   o32_describe  gives the size, the alignment and the kind of a structure,
+ *                 from a description of its members.
  *
  * BUFFERS. Every buffer belongs to the caller: the functions allocate nothing,
  * keep no pointer after they have returned, and have no state. A buffer is a
  * pointer and its length in bytes; a buffer of length 0 may be a null pointer.
  * Inputs are only read. On success exactly the answered length is written, from
  * the start of the output buffer, and bytes beyond it keep their content. On a
- * refusal no byte of it changes. The functions may be called from several
- * threads at once.
+ * refusal no byte of it changes. o32_frame and o32_describe have no output
+ * buffer: all that they give is in their answers. The functions may be called
+ * from several threads at once.
  *
  * WHAT IS ASKED OF THE CALLER. Each pointer is valid for its length. The output
  * buffer must not overlap another buffer of the same call. During the call no
@@ -42,21 +45,22 @@
  * host/c/example.c compares them first of all. A library from before version 1
  * has no o32_version, so a program that asks for it doesn't link.
  *
- * All numbers in lists, images and code are big-endian. Kinds are written in
- * hexadecimal here.
+ * All numbers in lists, images and code are big-endian. Kinds and the bytes of
+ * descriptions are written in hexadecimal here.
  *
  *
  * DEVICES
  *
- * The first parameter of each of the six is the device, the board that the
- * call or the frame is for:
+ * The first parameter of each of the seven but o32_describe is the device, the
+ * board that the call or the frame is for:
  *
  *   0  O32_FPU      it has a floating-point unit
  *   1  O32_NO_FPU   it has none
  *
  * Any other number is a device without a floating-point unit too. No device is
  * refused. On a device without a unit no argument goes to a floating register,
- * and a frame can't save one.
+ * and a frame can't save one. A structure has the same size, alignment and kind
+ * on every device, so o32_describe asks for none.
  *
  * A floating-point unit here is one with 32-bit registers (FR = 0, -mfp32). Ask
  * how a routine with an ellipsis was compiled: the System V supplement, which
@@ -180,6 +184,55 @@
  * o32_walk gives 8 just as o32_read does, for arguments before the marker too.
  *
  *
+ * DESCRIPTIONS
+ *
+ * A description is one structure, written in these bytes:
+ *
+ *   10       opens a structure
+ *   11       closes it
+ *   01..08   a member, of as many bytes as the body of this kind in a list
+ *   12 n     repeats the member right behind it: it stands n times, 1 to 255
+ *
+ * Between 10 and 11 stand the structure's members, one or more. A member may be
+ * a structure itself, whose members are described the same way, to depth 6; the
+ * outermost structure is depth 1. What 12 and the count repeat is a byte 01 to
+ * 08 or a structure from its 10 to its 11, and may not begin with 12. The count
+ * is a number, also where it is 10, 11 or 12.
+ *
+ * Members have natural alignment, not that of arguments: a byte 1, a halfword
+ * 2, a word or a single 4, a 64-bit integer or a double 8, and a structure that
+ * of its strictest member. Each lies at the next multiple of its alignment. The
+ * size of a structure, also of one that is a member or is repeated, is rounded
+ * up to its alignment.
+ *
+ * The alignment in the answer is the natural one, 1, 2, 4 or 8. The kind is the
+ * one that such a structure has in a list: with alignment 8 one of C0..FF, else
+ * one of 40..BF, whose arguments are aligned to 4.
+ *
+ * Example: 10 03 12 02 10 05 01 11 11 is a halfword and twice a structure of a
+ * word and a byte. The inner structure has 8 bytes; the outer one has 20,
+ * alignment 4 and kind 53.
+ *
+ * REFUSALS OF o32_describe. Bytes are checked from left to right, each by 16 to
+ * 19 in this order. The place is an offset in the description.
+ *
+ *   no.  meaning                                       place
+ *   16   unknown byte, or one that can't stand there   that byte
+ *        a repeat of 0                                 the count
+ *        bytes are missing                             the description's length
+ *        bytes are left over behind the structure      the first of them
+ *   17   a structure at depth 7                        its 10
+ *   18   a member, its repeats counted, ends above
+ *        512 in its structure                          the member's last byte
+ *   19   a structure is closed without a member        its 11
+ *        every byte has passed, and no kind has the
+ *        structure's size and alignment                0
+ *
+ * For example, there is no kind for 65, 66, 67 or 69 bytes, and with an
+ * alignment below 8 there is none for more than 320. No place is above 39,954,
+ * however long a description is.
+ *
+ *
  * FRAMES
  *
  * A request says:
@@ -227,7 +280,7 @@
 #include <stdint.h>
 
 /* The version of this header. The library's must be the same. */
-#define O32_VERSION 2
+#define O32_VERSION 3
 
 /*
  * Makes the compiler warn where an answer is ignored: by the language's own
@@ -283,7 +336,11 @@ enum o32_refusal {
     O32_OUTGOING = 12,
     O32_SHORT_CODE = 13,
     O32_PAIRS_WITHOUT_UNIT = 14,
-    O32_NO_MARKER = 15
+    O32_NO_MARKER = 15,
+    O32_MALFORMED_DESCRIPTION = 16,
+    O32_TOO_DEEP = 17,
+    O32_MEMBER_BEYOND_LIMIT = 18,
+    O32_EMPTY_OR_NO_KIND = 19
 };
 
 /* What o32_write, o32_read, o32_walk, o32_prologue and o32_epilogue answer. */
@@ -308,6 +365,15 @@ typedef struct {
     uint32_t general;  /* offset of the general save area */
     uint32_t locals;   /* offset of the locals */
 } o32_layout;
+
+/* What o32_describe answers. On a refusal size, alignment and kind are 0. */
+typedef struct {
+    uint32_t refusal;   /* 0 on success */
+    uint32_t place;     /* offset of the refused byte; see the table */
+    uint32_t size;      /* bytes of the structure */
+    uint32_t alignment; /* its natural alignment: 1, 2, 4 or 8 */
+    uint32_t kind;      /* its kind byte in a list, 40 to FF */
+} o32_structure;
 
 /* The version of the library: O32_VERSION, if it goes with this header. */
 uint32_t o32_version(void);
@@ -368,6 +434,13 @@ o32_answer o32_epilogue(uint32_t device,
                         uint32_t leaf, uint32_t locals, uint32_t outgoing,
                         uint32_t general, uint32_t pairs,
                         uint8_t *code, size_t code_len);
+
+/*
+ * Gives the size, the natural alignment and the kind of the structure that a
+ * description is of. Refuses 16 to 19.
+ */
+O32_NODISCARD
+o32_structure o32_describe(const uint8_t *description, size_t description_len);
 
 #ifdef __cplusplus
 }

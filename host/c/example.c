@@ -1,6 +1,6 @@
 /*
  * A worked example: a call image written, read back and taken apart as a
- * routine with an ellipsis does, and a frame's code.
+ * routine with an ellipsis does, a frame's code, and described structures.
  *
  * Every buffer comes from malloc with exactly the length that is passed on, so
  * that a memory checker sees a byte read or written too far.
@@ -69,6 +69,22 @@ static int is_refused(o32_layout layout, uint32_t refusal)
     return layout.refusal == refusal && layout.place == 0 &&
            layout.frame == 0 && layout.build == 0 && layout.floating == 0 &&
            layout.general == 0 && layout.locals == 0;
+}
+
+static int is_structure(o32_structure structure, uint32_t size,
+                        uint32_t alignment, uint32_t kind)
+{
+    return structure.refusal == 0 && structure.place == 0 &&
+           structure.size == size && structure.alignment == alignment &&
+           structure.kind == kind;
+}
+
+static int is_no_structure(o32_structure structure, uint32_t refusal,
+                           uint32_t place)
+{
+    return structure.refusal == refusal && structure.place == place &&
+           structure.size == 0 && structure.alignment == 0 &&
+           structure.kind == 0;
 }
 
 static uint32_t word_at(const uint8_t *bytes, size_t index)
@@ -450,6 +466,91 @@ static void devices(void)
     no_unit(UINT32_C(0xFFFFFFFF));
 }
 
+/* What is answered to a description, which must stay as it is. */
+static o32_structure described(const uint8_t *description, size_t length)
+{
+    uint8_t *given = copy_of(description, length);
+    o32_structure structure = o32_describe(given, length);
+    if (memcmp(given, description, length) != 0) {
+        check(0, "a description is as it was");
+    }
+    free(given);
+    return structure;
+}
+
+/* A halfword, and twice a structure of a word and a byte. */
+static const uint8_t nested[] = {0x10, 0x03, 0x12, 0x02, 0x10,
+                                 0x05, 0x01, 0x11, 0x11};
+
+/* The kind of a described structure is for lists. */
+static void described_argument(void)
+{
+    o32_structure structure = described(nested, sizeof nested);
+    printf("structure of %lu bytes, alignment %lu, kind %02lX\n",
+           (unsigned long)structure.size, (unsigned long)structure.alignment,
+           (unsigned long)structure.kind);
+    check(is_structure(structure, 20, 4, 0x53),
+          "a structure with a structure in it has 20 bytes");
+
+    uint8_t *list = buffer(1 + 20);
+    list[0] = (uint8_t)structure.kind;
+    uint8_t *image = buffer(56);
+    check(is_answer(o32_write(O32_FPU, list, 1 + 20, image, 56), 0, 0, 0, 56),
+          "and its kind is that of a body of 20 bytes");
+    check(is_answer(o32_write(O32_FPU, list, 1 + 19, image, 56),
+                    O32_BODY_CUT_OFF, 0, 1, 0),
+          "and of no fewer");
+    free(image);
+    free(list);
+}
+
+/* Every beginning of a description lacks bytes. */
+static void descriptions_cut_off(void)
+{
+    int refused = 1;
+    for (size_t length = 0; length < sizeof nested; length++) {
+        refused = refused && is_no_structure(described(nested, length),
+                                             O32_MALFORMED_DESCRIPTION,
+                                             (uint32_t)length);
+    }
+    check(refused, "a description that is cut off is refused at its length");
+    check(is_no_structure(o32_describe(NULL, 0), O32_MALFORMED_DESCRIPTION, 0),
+          "also an empty one, which may be a null pointer");
+}
+
+/* Each refusal of a description, and the last sizes before some of them. */
+static void refused_descriptions(void)
+{
+    static const uint8_t zero[] = {0x10, 0x12, 0x00, 0x05, 0x11};
+    static const uint8_t count[] = {0x10, 0x12, 0x11, 0x05, 0x11};
+    static const uint8_t deep[] = {0x10, 0x10, 0x10, 0x10, 0x10, 0x10, 0x10};
+    static const uint8_t large[] = {0x10, 0x12, 0x40, 0x06, 0x01, 0x11};
+    static const uint8_t largest[] = {0x10, 0x12, 0x40, 0x06, 0x11};
+    static const uint8_t empty[] = {0x10, 0x11};
+    static const uint8_t odd[] = {0x10, 0x12, 0x41, 0x01, 0x11, 0x00};
+
+    check(is_no_structure(described(zero, sizeof zero),
+                          O32_MALFORMED_DESCRIPTION, 2),
+          "no member is repeated 0 times");
+    check(is_structure(described(count, sizeof count), 68, 4, 0x80),
+          "a count may equal the byte that closes a structure");
+    check(is_no_structure(described(deep, sizeof deep), O32_TOO_DEEP, 6),
+          "no structure stands at depth 7");
+    check(is_no_structure(described(large, sizeof large),
+                          O32_MEMBER_BEYOND_LIMIT, 4) &&
+              is_structure(described(largest, sizeof largest), 512, 8, 0xFF),
+          "a member may end at 512 and not above");
+    check(is_no_structure(described(empty, sizeof empty),
+                          O32_EMPTY_OR_NO_KIND, 1),
+          "a structure has a member");
+    check(is_no_structure(described(odd, sizeof odd - 1),
+                          O32_EMPTY_OR_NO_KIND, 0),
+          "no kind has 65 bytes");
+    check(is_no_structure(described(odd, sizeof odd),
+                          O32_MALFORMED_DESCRIPTION, 5),
+          "which is looked at only if no byte is left over");
+}
+
 /* With another version the numbers of an answer could be misread. */
 static int has_version_of_header(void)
 {
@@ -477,6 +578,9 @@ int main(void)
     ellipsis();
     example_frame();
     devices();
+    described_argument();
+    descriptions_cut_off();
+    refused_descriptions();
     printf("%d passed, %d failed\n", passed, failed);
     return failed == 0 ? EXIT_SUCCESS : EXIT_FAILURE;
 }

@@ -15,4 +15,5 @@ void ignore(const uint8_t *input, uint8_t *output)
     o32_frame(O32_FPU, 1, 0, 0, 0, 0);
     o32_prologue(O32_FPU, 1, 0, 0, 0, 0, output, 1);
     o32_epilogue(O32_FPU, 1, 0, 0, 0, 0, output, 1);
+    o32_describe(input, 1);
 }

@@ -1,5 +1,5 @@
--- The place and the length of every answer are at most 1,057, and its argument's number is at most 33, so they are 32-bit numbers;
--- and so C gets the answer itself.
+-- The place and the length of every answer with a buffer are at most 1,057, and its argument's number is at most 33; a structure has a
+-- place up to 39,954, a size up to 512 and an alignment up to 8. So all are 32-bit numbers, and C gets the answer itself.
 -- Assumes nothing.
 use mathlib.Core.Path.{_≡_, refl, ap, _∙_}
 use mathlib.Core.List.{List, [], _∷_}
@@ -25,6 +25,10 @@ use Rattle.varargs.proofs.Bodies.{walked-long, bodies-most}
 use Rattle.frame.specs.declared.Request.{Request}
 use Rattle.frame.specs.Words.{prologueWords, epilogueWords}
 use Rattle.frame_code.specs.Code.{codeInto, prologueInto, epilogueInto}
+use Rattle.descriptions.specs.declared.Structure.{Structure}
+use Rattle.descriptions.specs.Describing.{described}
+use Rattle.descriptions.specs.Descriptions.{placeMost}
+use Rattle.descriptions.proofs.Places.{place-bound, small-numbers}
 use Rattle.capi.specs.declared.O32Answer.{O32Answer}
 use Rattle.capi.specs.Numbers.{narrow}
 use Rattle.frame_code.proofs.Longest.{code-place-zero, longest}
@@ -119,6 +123,11 @@ prologue-fits d r room e = code-fits d r (prologueWords r) room (omega (arith, l
 
 pub epilogue-fits : {a : Answer} (d : Device) (r : Request) (room : ℕ) → a ≡ answerOf (epilogueInto d r room) → Fits a
 epilogue-fits d r room e = code-fits d r (epilogueWords r) room (omega (arith, longest .epilogue .bound d r room)) e
+
+-- ---- a structure
+
+pub structure-fits : {x : Structure} (bytes : List ℕ) → x ≡ described bytes → (x .place ≤ placeMost) × (x .size ≤ 512) × (x .alignment ≤ 8)
+structure-fits bytes e = rw e (place-bound bytes, small-numbers bytes .0, small-numbers bytes .1)
 
 -- ---- what C gets, and what stands in its buffer, where the function was called with what C's numbers say
 

@@ -13,10 +13,13 @@ use Rattle.carried.specs.Calls.{Result, Functions}
 use Rattle.o32.specs.O32.{O32}
 use Rattle.varargs.specs.Walking.{walkInto}
 use Rattle.varargs.specs.Varargs.{Walker}
+use Rattle.descriptions.specs.declared.Structure.{Structure}
+use Rattle.descriptions.specs.Describing.{described}
 use Rattle.frame.specs.declared.Request.{Request}
 use Rattle.frame.specs.declared.Layout.{Layout}
 use Rattle.capi.specs.declared.O32Answer.{O32Answer}
 use Rattle.capi.specs.declared.O32Layout.{O32Layout}
+use Rattle.capi.specs.declared.O32Structure.{O32Structure}
 
 -- An answer, number by number.
 abbrev pub narrow : Answer → O32Answer
@@ -33,6 +36,10 @@ layoutNumbers y = record {
   general = y .general;
   locals = y .locals;
 }
+
+-- A structure that was described, number by number.
+abbrev pub structureNumbers : Structure → O32Structure
+structureNumbers x = record { refusal = x .refusal; place = x .place; size = x .size; alignment = x .alignment; kind = x .kind }
 
 -- What a caller in C gets from a call: the numbers of its answer, and its buffer afterwards.
 abbrev pub resultForC : O32Answer → List ℕ → Result
@@ -64,3 +71,9 @@ functionsForC device = record {
 abbrev pub walkerForC : ℕ → Walker
 walkerForC device sig img out =
     resultForC (narrow (answerOf (walkInto (deviceOf device) sig img (length out)))) (bufferOf (walkInto (deviceOf device) sig img (length out)) out)
+
+-- `o32_describe`, as its contract says: the numbers that a caller in C gets.
+abbrev pub describerForC : List ℕ → Structure
+describerForC bytes =
+    let x : O32Structure = structureNumbers (described bytes) in
+    record { refusal = x .refusal; place = x .place; size = x .size; alignment = x .alignment; kind = x .kind }

@@ -6,10 +6,13 @@ ghost use Rattle.o32.specs.O32.{O32};
 ghost use Rattle.answers.specs.Outcomes.{answerOf, bufferOf};
 ghost use Rattle.carried.specs.Convention.{readInto, writeInto};
 ghost use Rattle.varargs.specs.Walking.{walkInto};
+ghost use Rattle.descriptions.specs.Describing.{described};
+ghost use Rattle.descriptions.specs.Descriptions.{placeMost};
 ghost use Rattle.frame.specs.Frame.{layoutOf};
 ghost use Rattle.frame_code.specs.Code.{epilogueInto, prologueInto};
-ghost use Rattle.capi.specs.Numbers.{deviceOf, layoutNumbers, narrow, requestOf};
+ghost use Rattle.capi.specs.Numbers.{deviceOf, layoutNumbers, narrow, requestOf, structureNumbers};
 use answers::Answer;
+use descriptions::Structure;
 use device::Device;
 use frame::Request;
 
@@ -34,6 +37,16 @@ pub struct O32Layout {
     pub locals: u32,
 }
 
+// A structure that was described: a refusal, its place and all other numbers 0, or 0, 0 and the structure's numbers.
+#[repr(C)]
+pub struct O32Structure {
+    pub refusal: u32,
+    pub place: u32,
+    pub size: u32,
+    pub alignment: u32,
+    pub kind: u32,
+}
+
 // An answer in 32-bit numbers. No answer has a larger place or length than 1,057, or a larger argument than 33.
 fn narrowed(answer: Answer) -> O32Answer
     requires { ⌜ (answer .place ≤ 1057) × (answer .argument ≤ 33) × (answer .length ≤ 1057) ⌝ }
@@ -47,6 +60,24 @@ fn narrowed(answer: Answer) -> O32Answer
         place,
         argument,
         length,
+    }
+}
+
+// A structure in 32-bit numbers. No place is larger than 39,954, however long a description is.
+fn structure_numbers(structure: Structure) -> O32Structure
+    requires { ⌜ (structure .place ≤ placeMost) × (structure .size ≤ 512) × (structure .alignment ≤ 8) ⌝ }
+    ensures { λ r. ⌜ r ≡ structureNumbers structure ⌝ }
+{
+    let place = structure.place as u32;
+    let size = structure.size as u32;
+    let alignment = structure.alignment as u32;
+    let kind = structure.kind as u32;
+    O32Structure {
+        refusal: structure.refusal,
+        place,
+        size,
+        alignment,
+        kind,
     }
 }
 
@@ -78,9 +109,9 @@ fn as_request(leaf: u32, locals: u32, outgoing: u32, general: u32, pairs: u32) -
 // or a function here.
 #[no_mangle]
 pub extern "C" fn o32_version() -> u32
-    ensures { λ r. ⌜ r ≡ 2 ⌝ }
+    ensures { λ r. ⌜ r ≡ 3 ⌝ }
 {
-    2
+    3
 }
 
 // The call image of a list for a device.
@@ -121,6 +152,15 @@ pub extern "C" fn o32_walk(
 {
     let answer = varargs_code::walk(as_device(device), signature, image, bodies);
     narrowed(answer)
+}
+
+// The structure of a description.
+#[no_mangle]
+pub extern "C" fn o32_describe(description: &[u8]) -> O32Structure
+    ensures { λ r. ⌜ r ≡ structureNumbers (described (now (description .entry))) ⌝ }
+{
+    let structure = descriptions_code::describe(description);
+    structure_numbers(structure)
 }
 
 // The frame of a request on a device.

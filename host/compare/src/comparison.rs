@@ -3,14 +3,14 @@
 use std::hint::black_box;
 use std::ops::RangeInclusive;
 
-use model::{Answer, Layout};
+use compare::rng::Rng;
+use model::{Answer, Layout, Structure};
 use o32::{raw, Device, LIST_MAX};
 
 use crate::coverage::{Coverage, Operation};
 use crate::guarded::{Guarded, Noise};
 use crate::readers::{bodies_behind_marker, Inputs, Reader};
-use crate::report::{answer_text, answers, difference, hex};
-use crate::rng::Rng;
+use crate::report::{answer_text, answers, difference, hex, hex_beginning};
 
 /// Failing inputs that are shown of each group; the rest is only counted.
 const REPORTS_OF_A_GROUP: usize = 2;
@@ -41,6 +41,7 @@ impl Code {
 /// Counts comparisons and keeps the first failures.
 pub struct Comparison {
     noise: Noise,
+    /// The group's name, and its device if it has one.
     group: String,
     /// What the group's comparisons are for.
     device: Device,
@@ -67,8 +68,13 @@ impl Comparison {
 
     /// Starts a group of comparisons for one device.
     pub fn start_group(&mut self, name: &str, device: Device) {
-        self.group = String::from(name);
+        self.start_group_without_device(&format!("{name}, {device:?}"));
         self.device = device;
+    }
+
+    /// Starts a group of comparisons that no device matters to.
+    pub fn start_group_without_device(&mut self, name: &str) {
+        self.group = String::from(name);
         self.failed_in_group = 0;
     }
 
@@ -106,6 +112,10 @@ impl Comparison {
                     self.fail(|| format!("{operation:?}: no input is answered with {answer}"));
                 }
             }
+        }
+        self.start_group_without_device("coverage");
+        for answer in self.coverage.missing_descriptions() {
+            self.fail(|| format!("describe: no input is {answer}"));
         }
     }
 
@@ -266,6 +276,28 @@ impl Comparison {
         });
     }
 
+    /// Compares what is answered to a description.
+    pub fn describe(&mut self, description: &[u8]) {
+        let mut input = self.noise.around(description);
+        let input_before = input.clone();
+        let structure = structure_of(raw::describe(input.bytes()));
+        // The compiler must not take it for granted that inputs stay.
+        black_box(&mut input);
+        let expected = model::describe(description);
+
+        self.coverage
+            .count_description(model::cause_of_refusal(description));
+        self.judge(structure == expected && input == input_before, || {
+            [
+                format!("description {}", hex_beginning(description)),
+                format!("expected {expected:?}"),
+                format!("answered {structure:?}"),
+                difference("description", &input_before, &input),
+            ]
+            .join("\n  ")
+        });
+    }
+
     /// Counts a comparison, and the answer of the model.
     fn count(
         &mut self,
@@ -290,8 +322,7 @@ impl Comparison {
         self.failed += 1;
         self.failed_in_group += 1;
         if self.failed_in_group <= REPORTS_OF_A_GROUP && self.reports.len() < REPORTS {
-            let heading = format!("{}, {:?}", self.group, self.device);
-            self.reports.push(format!("{heading}\n  {}", report()));
+            self.reports.push(format!("{}\n  {}", self.group, report()));
         }
     }
 }
@@ -357,6 +388,23 @@ fn layout_of(layout: raw::Layout) -> Layout {
         floating,
         general,
         locals,
+    }
+}
+
+fn structure_of(structure: raw::Structure) -> Structure {
+    let raw::Structure {
+        refusal,
+        place,
+        size,
+        alignment,
+        kind,
+    } = structure;
+    Structure {
+        refusal,
+        place,
+        size,
+        alignment,
+        kind,
     }
 }
 

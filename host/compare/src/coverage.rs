@@ -1,5 +1,8 @@
 //! Which answers the inputs have led to.
 
+use std::iter;
+
+use model::Cause;
 use o32::Device;
 
 use crate::comparison::DEVICES;
@@ -10,7 +13,7 @@ const ANSWERS: usize = 16;
 /// The refusal that only a device without a floating-point unit gives.
 const PAIRS_WITHOUT_UNIT: usize = 14;
 
-/// What is compared.
+/// What is compared for each device.
 #[derive(Clone, Copy, Debug, PartialEq, Eq)]
 pub enum Operation {
     Write,
@@ -50,6 +53,8 @@ impl Operation {
 #[derive(Default)]
 pub struct Coverage {
     seen: [[[u64; ANSWERS]; DEVICES.len()]; Operation::ALL.len()],
+    /// Of descriptions: success, then each cause of a refusal.
+    descriptions: [u64; 1 + Cause::ALL.len()],
 }
 
 impl Coverage {
@@ -79,6 +84,36 @@ impl Coverage {
                     (_, count) => format!("{count} refused {answer}"),
                 },
             )
+            .collect::<Vec<_>>()
+            .join(", ")
+    }
+
+    /// Counts a description that is refused for a cause, or accepted.
+    pub fn count_description(&mut self, cause: Option<Cause>) {
+        let index = cause.map_or(0, |cause| 1 + cause as usize);
+        self.descriptions[index] += 1;
+    }
+
+    /// The answers to a description with how often each was expected.
+    fn descriptions(&self) -> impl Iterator<Item = (String, u64)> + '_ {
+        let refused = Cause::ALL.map(|cause| format!("refused {} ({cause:?})", cause.number()));
+        iter::once(String::from("accepted"))
+            .chain(refused)
+            .zip(self.descriptions)
+    }
+
+    /// The answers to a description that no input has led to.
+    pub fn missing_descriptions(&self) -> Vec<String> {
+        self.descriptions()
+            .filter(|&(_, count)| count == 0)
+            .map(|(answer, _)| answer)
+            .collect()
+    }
+
+    /// How often each answer to a description was expected.
+    pub fn descriptions_text(&self) -> String {
+        self.descriptions()
+            .map(|(answer, count)| format!("{count} {answer}"))
             .collect::<Vec<_>>()
             .join(", ")
     }

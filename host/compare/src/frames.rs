@@ -1,11 +1,11 @@
 //! Groups about frames.
 
+use compare::rng::Rng;
 use o32::raw::Request;
 use o32::Device;
 
 use crate::comparison::{model_code, Code, Comparison};
 use crate::lists::LONG;
-use crate::rng::Rng;
 
 /// `$16` to `$23`, `$30` and `$31`.
 const ALL_REGISTERS: u32 = 0xC0FF_0000;

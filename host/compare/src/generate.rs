@@ -3,10 +3,10 @@
 //! The model serves here only to choose inputs: how long a body is, whether one
 //! more kind would be refused, and which image bytes carry something.
 
+use compare::rng::Rng;
 use o32::Device;
 
 use crate::comparison::model_device;
-use crate::rng::Rng;
 
 pub const MARKER: u8 = 0x0A;
 pub const RETURN_POINTER: u8 = 0x0B;

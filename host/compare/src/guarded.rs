@@ -2,13 +2,13 @@
 
 use std::ops::Range;
 
-use crate::rng::Rng;
+use compare::rng::Rng;
 
 /// Bytes before and behind every buffer.
 const CANARY: usize = 32;
 
 /// More than the longest buffer here, canaries included.
-const NOISE: usize = 1 << 18;
+const NOISE: usize = 1 << 21;
 
 /// Bytes between two canaries. Two of them are equal only if the canaries are.
 #[derive(Clone, Debug, PartialEq, Eq)]

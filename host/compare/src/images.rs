@@ -1,5 +1,7 @@
 //! Groups about the readers of images.
 
+use compare::rng::Rng;
+
 use crate::comparison::Comparison;
 use crate::generate::{
     accepted_signature, carried_bytes, damage, flip, known_kind, list_of, random_image, room_near,
@@ -7,7 +9,6 @@ use crate::generate::{
 };
 use crate::lists::{rooms, LONG};
 use crate::readers::Reader;
-use crate::rng::Rng;
 
 /// An image of the smallest length, for signatures that are refused.
 const SMALLEST: usize = 48;

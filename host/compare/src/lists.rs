@@ -1,10 +1,11 @@
 //! Groups about the writer.
 
+use compare::rng::Rng;
+
 use crate::comparison::Comparison;
 use crate::generate::{
     accepted_signature, damage, image_of, kind_offsets, known_kind, list_of, room_near, Shape,
 };
-use crate::rng::Rng;
 
 /// The length of the smallest image.
 const SMALLEST: usize = 48;

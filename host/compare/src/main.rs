@@ -2,11 +2,13 @@
 //!
 //! Every comparison covers all parts of the answer, the whole output buffer,
 //! the canaries around it and around the inputs, and the inputs themselves.
-//! Every group runs for both devices. The inputs follow from a seed:
-//! `compare [SEED]`, decimal or `0x...`.
+//! Every group runs for both devices, but for those about descriptions, which no
+//! device matters to. The inputs follow from a seed: `compare [SEED]`, decimal
+//! or `0x...`.
 
 mod comparison;
 mod coverage;
+mod descriptions;
 mod frames;
 mod generate;
 mod guarded;
@@ -14,18 +16,16 @@ mod images;
 mod lists;
 mod readers;
 mod report;
-mod rng;
 mod walks;
 
 use std::env;
 use std::process::ExitCode;
 
+use compare::rng::{seed_from, Rng};
+
 use comparison::{Comparison, DEVICES};
 use coverage::{Coverage, Operation};
 use readers::Reader;
-use rng::Rng;
-
-const DEFAULT_SEED: u64 = 0x0032_0032_0032_0032;
 
 type Group = (&'static str, fn(&mut Comparison, &mut Rng));
 
@@ -81,12 +81,40 @@ const FRAMES: [Group; 5] = [
     ("frame, buffer lengths", frames::buffers),
 ];
 
+/// Groups that run once.
+const DESCRIPTIONS: [Group; 13] = [
+    (
+        "describe, descriptions of 0, 1 and 2 bytes",
+        descriptions::shortest,
+    ),
+    (
+        "describe, descriptions of 3 bytes",
+        descriptions::of_three_bytes,
+    ),
+    (
+        "describe, all short ones of a few bytes",
+        descriptions::of_few_bytes,
+    ),
+    (
+        "describe, all that goes on near a limit",
+        descriptions::near_limits,
+    ),
+    ("describe, every count", descriptions::repeated),
+    ("describe, random structures", descriptions::random),
+    ("describe, every byte replaced", descriptions::replaced),
+    ("describe, cut off everywhere", descriptions::cut_off),
+    ("describe, bytes left over", descriptions::left_over),
+    ("describe, damaged descriptions", descriptions::damaged),
+    ("describe, noise", descriptions::of_noise),
+    ("describe, fullest descriptions", descriptions::fullest),
+    ("describe, long descriptions", descriptions::long),
+];
+
 fn main() -> ExitCode {
-    let seed = match env::args().nth(1).map(|text| parse_seed(&text)) {
-        None => DEFAULT_SEED,
-        Some(Some(seed)) => seed,
-        Some(None) => {
-            eprintln!("usage: compare [SEED], a number in decimal or 0x hexadecimal");
+    let seed = match seed_from(env::args().nth(1)) {
+        Ok(seed) => seed,
+        Err(message) => {
+            eprintln!("{message}");
             return ExitCode::from(2);
         }
     };
@@ -126,6 +154,9 @@ fn run_groups(comparison: &mut Comparison, seed: u64) {
     for (name, group) in READING_ALONE.into_iter().chain(FRAMES) {
         run_group(comparison, seed, name, group);
     }
+    for (name, group) in DESCRIPTIONS {
+        run_group_once(comparison, seed, name, group);
+    }
 }
 
 fn run_group(
@@ -142,6 +173,18 @@ fn run_group(
     println!("{name}: {} comparisons", comparison.total() - before);
 }
 
+fn run_group_once(
+    comparison: &mut Comparison,
+    seed: u64,
+    name: &str,
+    group: fn(&mut Comparison, &mut Rng),
+) {
+    let before = comparison.total();
+    comparison.start_group_without_device(name);
+    group(comparison, &mut Rng::for_part(seed, name));
+    println!("{name}: {} comparisons", comparison.total() - before);
+}
+
 fn print_answers(coverage: &Coverage) {
     for device in DEVICES {
         for operation in Operation::ALL {
@@ -149,11 +192,8 @@ fn print_answers(coverage: &Coverage) {
             println!("answers compared, {device:?}, {operation:?}: {answers}");
         }
     }
-}
-
-fn parse_seed(text: &str) -> Option<u64> {
-    match text.strip_prefix("0x") {
-        Some(digits) => u64::from_str_radix(digits, 16).ok(),
-        None => text.parse().ok(),
-    }
+    println!(
+        "answers compared, describe: {}",
+        coverage.descriptions_text()
+    );
 }

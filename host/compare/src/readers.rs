@@ -2,6 +2,7 @@
 
 use std::hint::black_box;
 
+use compare::rng::Rng;
 use model::Answer;
 use o32::{raw, Device};
 
@@ -10,7 +11,6 @@ use crate::coverage::Operation;
 use crate::generate::{accepted_signature, body_length, variadic_signature, Shape, MARKER};
 use crate::guarded::{Guarded, Noise};
 use crate::report::{difference, hex};
-use crate::rng::Rng;
 
 /// Which of the two is called.
 #[derive(Clone, Copy, Debug, PartialEq, Eq)]

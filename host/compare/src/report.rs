@@ -4,6 +4,9 @@ use model::Answer;
 
 use crate::guarded::Guarded;
 
+/// Bytes that are shown of a long input; the seed gives all of them again.
+const BEGINNING: usize = 1_000;
+
 pub fn answer_text(answer: &Answer) -> String {
     format!(
         "refusal {}, place {}, argument {}, length {}",
@@ -36,4 +39,14 @@ pub fn hex(bytes: &[u8]) -> String {
         return String::from("(empty)");
     }
     bytes.iter().map(|byte| format!("{byte:02X}")).collect()
+}
+
+/// Likewise, but of a long input only the beginning.
+pub fn hex_beginning(bytes: &[u8]) -> String {
+    match bytes.get(..BEGINNING) {
+        Some(beginning) if bytes.len() > BEGINNING => {
+            format!("of {} bytes, which begins {}", bytes.len(), hex(beginning))
+        }
+        _ => hex(bytes),
+    }
 }

@@ -2,6 +2,21 @@
 
 use std::ops::RangeInclusive;
 
+const DEFAULT_SEED: u64 = 0x0032_0032_0032_0032;
+
+/// The seed that a program's argument names, in decimal or `0x...`, and a fixed
+/// one without an argument.
+pub fn seed_from(argument: Option<String>) -> Result<u64, String> {
+    let Some(text) = argument else {
+        return Ok(DEFAULT_SEED);
+    };
+    let seed = match text.strip_prefix("0x") {
+        Some(digits) => u64::from_str_radix(digits, 16),
+        None => text.parse(),
+    };
+    seed.map_err(|_| format!("{text} is no seed: a number in decimal or 0x hexadecimal"))
+}
+
 /// The splitmix64 generator: a counter and a mixing function.
 #[derive(Clone, Debug)]
 pub struct Rng {
@@ -23,7 +38,7 @@ impl Rng {
         rng
     }
 
-    pub fn next(&mut self) -> u64 {
+    fn next(&mut self) -> u64 {
         self.state = self.state.wrapping_add(0x9E37_79B9_7F4A_7C15);
         let mut mixed = self.state;
         mixed = (mixed ^ (mixed >> 30)).wrapping_mul(0xBF58_476D_1CE4_E5B9);

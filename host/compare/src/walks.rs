@@ -1,6 +1,7 @@
 //! Groups about the walk alone. Those that it shares with the reader are in
 //! `images`.
 
+use compare::rng::Rng;
 use o32::Device;
 
 use crate::comparison::Comparison;
@@ -9,7 +10,6 @@ use crate::generate::{
 };
 use crate::images::three_images;
 use crate::readers::Reader;
-use crate::rng::Rng;
 
 /// All pairs of kinds with the marker between them.
 pub fn around_the_marker(comparison: &mut Comparison, rng: &mut Rng) {

@@ -1,9 +1,10 @@
 //! Call images and frames of the MIPS O32 convention in ordinary Rust.
 //!
-//! This is the yardstick for the proved library: the same six operations with
-//! the same answers, written from the rules alone. Every operation checks
+//! This is the yardstick for the proved library: the same seven operations
+//! with the same answers, written from the rules alone. Every operation checks
 //! first and writes into the caller's buffer only when nothing refuses.
 
+mod description;
 mod frame;
 mod image;
 mod kind;
@@ -11,6 +12,7 @@ mod placement;
 mod records;
 mod walker;
 
+pub use description::{cause_of_refusal, describe, Cause, Structure};
 pub use frame::{epilogue, frame, prologue, Layout, Request};
 pub use image::{read, write};
 pub use walker::walk;

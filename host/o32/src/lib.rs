@@ -7,7 +7,8 @@
 //! back. [`walk`] takes the arguments behind an ellipsis from an image, as the
 //! called routine does. [`layout`] lays out a routine's stack frame;
 //! [`prologue`] and [`epilogue`] write the instructions that set it up and take
-//! it down.
+//! it down. [`describe`] gives the size, the alignment and the kind of a
+//! structure from a description of its members.
 //!
 //! Any bytes, numbers and buffer lengths may be given: what can't be done is
 //! refused with its [`Refusal`], and then the buffer keeps every byte. On
@@ -66,6 +67,20 @@
 //! homes of `$4` to `$7`. The C header, `include/o32.h`, says which argument
 //! goes where.
 //!
+//! # Descriptions
+//!
+//! A description is one structure, byte by byte, in hexadecimal here. 10 opens a
+//! structure and 11 closes it; between them stand its members. The bytes 01 to 08 are members
+//! that are no structures, with the sizes of these kinds above, each aligned to
+//! its size. A structure may be a member too, to depth 6, the outermost being
+//! depth 1. 12 and a count byte, 01 to FF, repeat the member right behind them,
+//! so that it stands as often as the count says; a count may be 10, 11 or 12,
+//! and the repeated member may not begin with 12.
+//!
+//! Members lie at the next multiple of their alignments, a structure is aligned
+//! as its strictest member, and its size is rounded up to that. No member may
+//! end above 512 in its structure.
+//!
 //! # Refusals
 //!
 //! [`Refusal`] has the table of all refusals, with their numbers and order.
@@ -98,7 +113,7 @@ pub use refusal::Refusal;
 
 /// The version of the library's interface that this crate is written for, as
 /// `O32_VERSION` in C.
-pub const VERSION: u32 = 2;
+pub const VERSION: u32 = 3;
 
 /// Bytes of the longest list that is accepted.
 pub const LIST_MAX: usize = 1057;
@@ -175,6 +190,19 @@ pub struct Layout {
     pub general: u32,
     /// Offset of the locals.
     pub locals: u32,
+}
+
+/// A described structure.
+#[non_exhaustive]
+#[derive(Clone, Copy, Debug, PartialEq, Eq, Hash)]
+pub struct Structure {
+    /// Bytes of the structure, rounded up to its alignment.
+    pub size: u32,
+    /// Its natural alignment, that of its strictest member: 1, 2, 4 or 8. As an
+    /// argument it is aligned to 4 even where this is less.
+    pub alignment: u32,
+    /// The kind of an argument that is such a structure, 40 to FF.
+    pub kind: u8,
 }
 
 /// The version of the library that was linked. Where it isn't [`VERSION`], the
@@ -391,6 +419,46 @@ pub fn epilogue(device: Device, request: Request, code: &mut [u8]) -> Result<&[u
     check_version();
     let length = length_of(raw::epilogue(device, request.into(), code))?;
     Ok(&code[..length])
+}
+
+/// The size, the alignment and the kind of a structure from its description.
+/// They are the same for every device. Refuses 16 to 19.
+///
+/// ```
+/// use o32::{Device, Refusal, IMAGE_MAX};
+///
+/// fn main() -> Result<(), Refusal> {
+///     // A halfword, and a structure of a word and a byte, which stands twice.
+///     let description = [0x10, 0x03, 0x12, 2, 0x10, 0x05, 0x01, 0x11, 0x11];
+///     let structure = o32::describe(&description)?;
+///     assert_eq!((structure.size, structure.alignment), (20, 4));
+///     assert_eq!(structure.kind, 0x53);
+///
+///     // The kind is for lists and signatures.
+///     let list = [&[structure.kind][..], &[0xAB; 20]].concat();
+///     assert_eq!(o32::write(Device::Fpu, &list, &mut [0; IMAGE_MAX])?.len(), 56);
+///
+///     // It is cut off before its end.
+///     assert_eq!(
+///         o32::describe(&description[..8]),
+///         Err(Refusal::MalformedDescription { place: 8 })
+///     );
+///     Ok(())
+/// }
+/// ```
+#[inline]
+pub fn describe(description: &[u8]) -> Result<Structure, Refusal> {
+    check_version();
+    let structure = raw::describe(description);
+    match structure.refusal {
+        0 => Ok(Structure {
+            size: structure.size,
+            alignment: structure.alignment,
+            // No kind is above FF.
+            kind: structure.kind as u8,
+        }),
+        number => Err(Refusal::of(number, structure.place, 0)),
+    }
 }
 
 /// The structs of another version may have other numbers, or the same in another

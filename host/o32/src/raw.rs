@@ -49,6 +49,26 @@ pub struct Layout {
     pub locals: u32,
 }
 
+/// What is answered to a description of a structure.
+///
+/// `size`, `alignment` and `kind` are 0 on a refusal.
+#[must_use = "there is no size if this is a refusal"]
+#[repr(C)]
+#[derive(Clone, Copy, Debug, Default, PartialEq, Eq)]
+pub struct Structure {
+    /// 0 on success, otherwise the number of the refusal.
+    pub refusal: u32,
+    /// Offset of the refused byte in the description, its length where bytes
+    /// are missing, and 0 where no kind has the size.
+    pub place: u32,
+    /// Bytes of the structure, rounded up to its alignment.
+    pub size: u32,
+    /// Its natural alignment: 1, 2, 4 or 8.
+    pub alignment: u32,
+    /// The kind byte of an argument that is such a structure.
+    pub kind: u32,
+}
+
 /// The frame that a function asks for, in the numbers of the C functions.
 #[derive(Clone, Copy, Debug, Default, PartialEq, Eq)]
 pub struct Request {
@@ -65,7 +85,7 @@ pub struct Request {
 }
 
 mod capi {
-    use super::{Answer, Layout};
+    use super::{Answer, Layout, Structure};
 
     extern "C" {
         pub fn o32_version() -> u32;
@@ -128,6 +148,8 @@ mod capi {
             code: *mut u8,
             code_len: usize,
         ) -> Answer;
+
+        pub fn o32_describe(description: *const u8, description_len: usize) -> Structure;
     }
 }
 
@@ -252,4 +274,11 @@ pub fn epilogue(device: Device, request: Request, code: &mut [u8]) -> Answer {
             code.len(),
         )
     }
+}
+
+/// The size, natural alignment and kind byte of a described structure.
+#[inline]
+pub fn describe(description: &[u8]) -> Structure {
+    // SAFETY: the pointer is valid for reads of the length that goes with it.
+    unsafe { capi::o32_describe(description.as_ptr(), description.len()) }
 }

@@ -1,11 +1,11 @@
-//! Why nothing was written.
+//! Why there is no result.
 
 use core::error::Error;
 use core::fmt;
 
 /// Why an operation was refused, where, and at which argument.
 ///
-/// A refused operation has left its buffer as it was.
+/// A refused operation has left its buffer as it was, if it has one.
 ///
 /// | number | refused by | variant | place | argument |
 /// |---:|---|---|---|---|
@@ -25,15 +25,22 @@ use core::fmt;
 /// | 13 | prologue, epilogue | [`ShortCode`](Self::ShortCode) | | |
 /// | 14 | layout, prologue, epilogue | [`PairsWithoutUnit`](Self::PairsWithoutUnit) | | |
 /// | 15 | walk | [`NoMarker`](Self::NoMarker) | | |
+/// | 16 | describe | [`MalformedDescription`](Self::MalformedDescription) | yes | |
+/// | 17 | describe | [`TooDeep`](Self::TooDeep) | yes | |
+/// | 18 | describe | [`MemberBeyondLimit`](Self::MemberBeyondLimit) | yes | |
+/// | 19 | describe | [`EmptyStructure`](Self::EmptyStructure) | yes | |
+/// | 19 | describe | [`NoKind`](Self::NoKind) | | |
 ///
 /// Records are checked from left to right, each by 1 to 5 in this order; 15, 6,
 /// 7 and 8 follow in this order when all records have passed. The checks of a
-/// frame are 9, 14, 10, 11, 12 and 13, in this order. The first that applies is
-/// answered.
+/// frame are 9, 14, 10, 11, 12 and 13, in this order. The bytes of a description
+/// are checked from left to right, each by 16 to 19 in this order; `NoKind`
+/// follows when all bytes have passed. The first that applies is answered.
 ///
 /// A place is the offset of a kind byte in the list that was to be written, or
-/// in the signature that an image was to be read under. An argument is counted
-/// from 1; a return pointer counts, the marker doesn't.
+/// in the signature that an image was to be read under, or of a byte in the
+/// description. An argument is counted from 1; a return pointer counts, the
+/// marker doesn't.
 #[non_exhaustive]
 #[derive(Clone, Copy, Debug, PartialEq, Eq, Hash)]
 pub enum Refusal {
@@ -103,6 +110,29 @@ pub enum Refusal {
     PairsWithoutUnit,
     /// 15: the signature has no ellipsis marker.
     NoMarker,
+    /// 16: a byte of the description is unknown or can't stand there, is a count
+    /// of 0, or is left over behind the structure; or bytes are missing.
+    MalformedDescription {
+        /// Offset of the byte; the description's length if bytes are missing.
+        place: usize,
+    },
+    /// 17: a structure is opened at depth 7.
+    TooDeep {
+        /// Offset of the byte that opens it.
+        place: usize,
+    },
+    /// 18: a member ends above 512 in its structure, all repeats counted.
+    MemberBeyondLimit {
+        /// Offset of the member's last byte in the description.
+        place: usize,
+    },
+    /// 19: a structure is closed without a member.
+    EmptyStructure {
+        /// Offset of the byte that closes it.
+        place: usize,
+    },
+    /// 19: no kind is that of a structure of this size and alignment.
+    NoKind,
     /// A number that this crate has no name for. A later version may have one,
     /// so match it with `_`.
     #[non_exhaustive]
@@ -138,6 +168,12 @@ impl Refusal {
             13 => Refusal::ShortCode,
             14 => Refusal::PairsWithoutUnit,
             15 => Refusal::NoMarker,
+            16 => Refusal::MalformedDescription { place },
+            17 => Refusal::TooDeep { place },
+            18 => Refusal::MemberBeyondLimit { place },
+            // No structure is closed by the first byte of a description.
+            19 if place == 0 => Refusal::NoKind,
+            19 => Refusal::EmptyStructure { place },
             _ => Refusal::Unknown {
                 number,
                 place,
@@ -164,12 +200,17 @@ impl Refusal {
             Refusal::ShortCode => 13,
             Refusal::PairsWithoutUnit => 14,
             Refusal::NoMarker => 15,
+            Refusal::MalformedDescription { .. } => 16,
+            Refusal::TooDeep { .. } => 17,
+            Refusal::MemberBeyondLimit { .. } => 18,
+            Refusal::EmptyStructure { .. } | Refusal::NoKind => 19,
             Refusal::Unknown { number, .. } => number,
         }
     }
 
-    /// Offset of the refused kind byte, where the refusal has a place. That of
-    /// an unknown refusal is what the library answered.
+    /// Offset of the refused kind byte or byte of a description, where the
+    /// refusal has a place. That of an unknown refusal is what the library
+    /// answered.
     pub fn place(&self) -> Option<usize> {
         match *self {
             Refusal::UnknownKind { place }
@@ -179,6 +220,10 @@ impl Refusal {
             | Refusal::BodyCutOff { place, .. }
             | Refusal::BeyondLimit { place, .. }
             | Refusal::NoPromotion { place, .. }
+            | Refusal::MalformedDescription { place }
+            | Refusal::TooDeep { place }
+            | Refusal::MemberBeyondLimit { place }
+            | Refusal::EmptyStructure { place }
             | Refusal::Unknown { place, .. } => Some(place),
             _ => None,
         }
@@ -223,6 +268,13 @@ impl Refusal {
                 "floating pairs to save on a device without a floating-point unit"
             }
             Refusal::NoMarker => "the signature has no ellipsis marker",
+            Refusal::MalformedDescription { .. } => {
+                "the description has a byte that can't stand there, or ends too early"
+            }
+            Refusal::TooDeep { .. } => "structures are nested more than 6 deep",
+            Refusal::MemberBeyondLimit { .. } => "the member ends above 512 in its structure",
+            Refusal::EmptyStructure { .. } => "the structure is closed without a member",
+            Refusal::NoKind => "no kind has the structure's size and alignment",
             Refusal::Unknown { .. } => "a refusal that this version of the crate does not know",
         }
     }
@@ -253,6 +305,7 @@ mod tests {
     fn numbers_are_kept() {
         for number in 0..=20 {
             assert_eq!(Refusal::of(number, 7, 3).number(), number);
+            assert_eq!(Refusal::of(number, 0, 0).number(), number);
         }
         assert_eq!(Refusal::of(u32::MAX, 7, 3).number(), u32::MAX);
     }

@@ -192,6 +192,121 @@ fn walks_that_are_refused() {
     }
 }
 
+fn refusal_of_description(description: &[u8]) -> Refusal {
+    o32::describe(description).unwrap_err()
+}
+
+#[test]
+fn a_described_structure() {
+    let structure = o32::describe(&[0x10, 0x01, 0x12, 0x03, 0x05, 0x11]).unwrap();
+    assert_eq!(
+        (structure.size, structure.alignment, structure.kind),
+        (16, 4, 0x4F)
+    );
+    // The alignment is the natural one, not that of the kind.
+    let structure = o32::describe(&[0x10, 0x01, 0x11]).unwrap();
+    assert_eq!(
+        (structure.size, structure.alignment, structure.kind),
+        (1, 1, 0x40)
+    );
+    let structure = o32::describe(&[0x10, 0x12, 0x40, 0x08, 0x11]).unwrap();
+    assert_eq!(
+        (structure.size, structure.alignment, structure.kind),
+        (512, 8, 0xFF)
+    );
+}
+
+/// Unknown bytes, misplaced ones, a count of 0, and too few or too many bytes.
+#[test]
+fn a_malformed_description() {
+    for (description, place) in [
+        (&[][..], 0),
+        (&[0x05], 0),
+        (&[0x10, 0x09], 1),
+        (&[0x10, 0x12, 0x00, 0x05, 0x11], 2),
+        (&[0x10, 0x12, 0x02, 0x11], 3),
+        (&[0x10, 0x05], 2),
+        (&[0x10, 0x05, 0x11, 0x11], 3),
+    ] {
+        let refusal = refusal_of_description(description);
+        assert_eq!(refusal, Refusal::MalformedDescription { place });
+        assert_parts(refusal, 16, Some(place), None);
+    }
+    assert_eq!(
+        refusal_of_description(&[0x10, 0x05]).to_string(),
+        "the description has a byte that can't stand there, or ends too early, \
+         at byte 2 (refusal 16)"
+    );
+}
+
+#[test]
+fn a_structure_that_is_too_deep() {
+    let refusal = refusal_of_description(&[0x10; 7]);
+    assert_eq!(refusal, Refusal::TooDeep { place: 6 });
+    assert_parts(refusal, 17, Some(6), None);
+    assert_eq!(
+        refusal.to_string(),
+        "structures are nested more than 6 deep, at byte 6 (refusal 17)"
+    );
+}
+
+#[test]
+fn a_member_beyond_the_limit() {
+    let refusal = refusal_of_description(&[0x10, 0x12, 0xFF, 0x05, 0x11]);
+    assert_eq!(refusal, Refusal::MemberBeyondLimit { place: 3 });
+    assert_parts(refusal, 18, Some(3), None);
+    assert_eq!(
+        refusal.to_string(),
+        "the member ends above 512 in its structure, at byte 3 (refusal 18)"
+    );
+}
+
+#[test]
+fn an_empty_structure() {
+    let refusal = refusal_of_description(&[0x10, 0x11]);
+    assert_eq!(refusal, Refusal::EmptyStructure { place: 1 });
+    assert_parts(refusal, 19, Some(1), None);
+    assert_eq!(
+        refusal.to_string(),
+        "the structure is closed without a member, at byte 1 (refusal 19)"
+    );
+}
+
+#[test]
+fn a_size_without_a_kind() {
+    let refusal = refusal_of_description(&[0x10, 0x12, 0x41, 0x01, 0x11]);
+    assert_eq!(refusal, Refusal::NoKind);
+    assert_parts(refusal, 19, None, None);
+    assert_eq!(
+        refusal.to_string(),
+        "no kind has the structure's size and alignment (refusal 19)"
+    );
+}
+
+/// Every described size that has a kind is that of the kind's body.
+#[test]
+fn the_kind_of_a_structure_has_its_size() {
+    let mut image = [0; IMAGE_MAX];
+    for scalar in [0x01, 0x03, 0x05, 0x06] {
+        for count in 1..=255 {
+            let Ok(structure) = o32::describe(&[0x10, 0x12, count, scalar, 0x11]) else {
+                continue;
+            };
+            let mut list = vec![0xFF; 1 + structure.size as usize];
+            list[0] = structure.kind;
+            assert!(o32::write(Device::Fpu, &list, &mut image).is_ok());
+            list.pop();
+            assert_eq!(
+                o32::write(Device::Fpu, &list, &mut image),
+                Err(Refusal::BodyCutOff {
+                    place: 0,
+                    argument: 1
+                })
+            );
+        }
+    }
+}
+
 #[test]
 fn requests_that_are_refused() {
     let leaf = Request {

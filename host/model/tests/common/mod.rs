@@ -1,5 +1,8 @@
 //! What the tests of the model share.
 
+// No test uses all of it.
+#![allow(dead_code)]
+
 use std::fmt::Debug;
 
 use model::{Answer, Device};

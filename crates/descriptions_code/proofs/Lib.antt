@@ -1,0 +1,5 @@
+pub mod KindSearch
+pub mod Numbers
+pub mod Reading
+pub mod Members
+pub mod Whole

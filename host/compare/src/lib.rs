@@ -1,0 +1,4 @@
+//! What the programs here share.
+
+pub mod rng;
+pub mod trees;
