@@ -14,13 +14,13 @@ use Rattle.device.specs.declared.Device.{Device}
 use Rattle.answers.specs.Outcomes.{Outcome, done, refused, checkRoom, answerOf, bufferOf}
 use Rattle.carried.specs.Image.{checked, image, reading, Placed}
 use Rattle.places.specs.Places.{gather}
-use Rattle.carried.specs.Convention.{Plan, stopped, complete, plan, writePlan, checkImage, readPlan, writeInto, readInto}
+use Rattle.carried.specs.Convention.{Scan, stopped, complete, scan, writeScan, checkImage, readScan, writeInto, readInto}
 use Rattle.carried.proofs.Readings.{image-length}
 use Rattle.o32.specs.declared.State.{State}
 use Rattle.o32.specs.O32.{O32, imageSize}
-use Rattle.o32_laws.proofs.Bounds.{Numbers, refusal-bound, plan-bound, reading-long}
+use Rattle.o32_laws.proofs.Bounds.{Numbers, refusal-bound, scan-bound, reading-long}
 use Rattle.answers.specs.declared.Answer.{Answer}
-use Rattle.varargs.specs.Walking.{walked, marked, walkPlan, walkInto}
+use Rattle.varargs.specs.Walking.{walked, marked, walkScan, walkInto}
 use Rattle.varargs.proofs.Bodies.{walked-long, bodies-most}
 use Rattle.frame.specs.declared.Request.{Request}
 use Rattle.frame.specs.Words.{prologueWords, epilogueWords}
@@ -58,14 +58,14 @@ room-bounded number room n x h = go (ltb room n)
 
 -- ---- the writer
 
-write-bounded : (d : Device) (list : List ℕ) (room : ℕ) (q : Plan State) → plan (O32 d) true list ≡ q → Bounded (writePlan (O32 d) (checkRoom 7 room) list q)
+write-bounded : (d : Device) (list : List ℕ) (room : ℕ) (q : Scan State) → scan (O32 d) true list ≡ q → Bounded (writeScan (O32 d) (checkRoom 7 room) list q)
 write-bounded d list room (stopped r at j) e = refusal-bound d true list r at j e
 write-bounded d list room (complete L last) e =
     let x : List ℕ = image (imageSize (last .end)) L list in
-    room-bounded 7 room (length x) (done x) (omega (arith, image-length (imageSize (last .end)) L list, plan-bound d true list L last e .fits))
+    room-bounded 7 room (length x) (done x) (omega (arith, image-length (imageSize (last .end)) L list, scan-bound d true list L last e .fits))
 
 pub write-fits : {a : Answer} (d : Device) (list : List ℕ) (room : ℕ) → a ≡ answerOf (writeInto (O32 d) list room) → Fits a
-write-fits d list room e = fits (writeInto (O32 d) list room) (write-bounded d list room (plan (O32 d) true list) refl) e
+write-fits d list room e = fits (writeInto (O32 d) list room) (write-bounded d list room (scan (O32 d) true list) refl) e
 
 -- ---- the reader
 
@@ -81,7 +81,7 @@ checked-bounded (s ∷ L) img at x h n b =
     go false w = (omega arith, n .0)
 
 -- what is answered for an image, where it has its length
-image-bounded : (d : Device) (sig img : List ℕ) (room : ℕ) (L : List Placed) (last : State) (x : List ℕ) → plan (O32 d) false sig ≡ complete L last
+image-bounded : (d : Device) (sig img : List ℕ) (room : ℕ) (L : List Placed) (last : State) (x : List ℕ) → scan (O32 d) false sig ≡ complete L last
     → (length img ≡ imageSize (last .end) → length x ≤ 1057) → Bounded (checkImage (O32 d) (checkRoom 7 room) img L last x)
 image-bounded d sig img room L last x e h = go (eqb (length img) (imageSize (last .end))) refl
   where
@@ -89,20 +89,20 @@ image-bounded d sig img room L last x e h = go (eqb (length img) (imageSize (las
     go true f =
         let l : length (reading L img) ≤ 1057 = reading-long d sig img L last e in
         room-bounded 7 room (length x) (checked 8 0 L img (done x))
-        (checked-bounded L img 0 (done x) (omega arith) (plan-bound d false sig L last e .numbers) (h (eqb-true (length img) (imageSize (last .end)) f)))
+        (checked-bounded L img 0 (done x) (omega arith) (scan-bound d false sig L last e .numbers) (h (eqb-true (length img) (imageSize (last .end)) f)))
     go false f = nowhere
 
-read-bounded : (d : Device) (sig img : List ℕ) (room : ℕ) (q : Plan State) → plan (O32 d) false sig ≡ q → Bounded (readPlan (O32 d) (checkRoom 7 room) img q)
+read-bounded : (d : Device) (sig img : List ℕ) (room : ℕ) (q : Scan State) → scan (O32 d) false sig ≡ q → Bounded (readScan (O32 d) (checkRoom 7 room) img q)
 read-bounded d sig img room (stopped r at j) e = refusal-bound d false sig r at j e
 read-bounded d sig img room (complete L last) e = image-bounded d sig img room L last (reading L img) e (λ h. reading-long d sig img L last e)
 
 pub read-fits : {a : Answer} (d : Device) (sig img : List ℕ) (room : ℕ) → a ≡ answerOf (readInto (O32 d) sig img room) → Fits a
-read-fits d sig img room e = fits (readInto (O32 d) sig img room) (read-bounded d sig img room (plan (O32 d) false sig) refl) e
+read-fits d sig img room e = fits (readInto (O32 d) sig img room) (read-bounded d sig img room (scan (O32 d) false sig) refl) e
 
 -- ---- the walker
 
-walk-bounded : (d : Device) (sig img : List ℕ) (room : ℕ) (q : Plan State) → plan (O32 d) false sig ≡ q
-    → Bounded (walkPlan d (checkRoom 7 room) sig img q)
+walk-bounded : (d : Device) (sig img : List ℕ) (room : ℕ) (q : Scan State) → scan (O32 d) false sig ≡ q
+    → Bounded (walkScan d (checkRoom 7 room) sig img q)
 walk-bounded d sig img room (stopped r at j) e = refusal-bound d false sig r at j e
 walk-bounded d sig img room (complete L last) e = go (marked sig) refl
   where
@@ -111,7 +111,7 @@ walk-bounded d sig img room (complete L last) e = go (marked sig) refl
     go false m = nowhere
 
 pub walk-fits : {a : Answer} (d : Device) (sig img : List ℕ) (room : ℕ) → a ≡ answerOf (walkInto d sig img room) → Fits a
-walk-fits d sig img room e = fits (walkInto d sig img room) (walk-bounded d sig img room (plan (O32 d) false sig) refl) e
+walk-fits d sig img room e = fits (walkInto d sig img room) (walk-bounded d sig img room (scan (O32 d) false sig) refl) e
 
 -- ---- the code of a frame
 

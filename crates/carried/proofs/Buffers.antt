@@ -15,7 +15,7 @@ use Rattle.words.specs.Words.{proper}
 use Rattle.answers.specs.Outcomes.{Outcome, done, refused, checkRoom, answerOf, bufferOf}
 use Rattle.carried.specs.Image.{checked, image, reading, Placed}
 use Rattle.places.specs.Places.{gather}
-use Rattle.carried.specs.Convention.{Convention, Plan, stopped, complete, plan, writePlan, readPlan, write, read, writeInto, readInto}
+use Rattle.carried.specs.Convention.{Convention, Scan, stopped, complete, scan, writeScan, readScan, write, read, writeInto, readInto}
 use Rattle.carried.proofs.Readings.{done-inj, Passed, checked-passes}
 use Rattle.carried.specs.Calls.{PastSignature, output, resultOf}
 use Rattle.words.proofs.Impossible.{impossible}
@@ -26,9 +26,9 @@ passes L img at y x e = subst (λ (a : Outcome). Passed L img a y) e (checked-pa
 
 module _ (c : Convention) where
   pub written-is : (list x : List ℕ) (room : ℕ) → (writeInto c list room ≡ done x) ↔ ((write c list ≡ done x) × (length x ≤ room))
-  written-is list x room = go (plan c true list)
+  written-is list x room = go (scan c true list)
     where
-      go : (q : Plan (c .State)) → (writePlan c (checkRoom 7 room) list q ≡ done x) ↔ ((writePlan c (λ n x. x) list q ≡ done x) × (length x ≤ room))
+      go : (q : Scan (c .State)) → (writeScan c (checkRoom 7 room) list q ≡ done x) ↔ ((writeScan c (λ n x. x) list q ≡ done x) × (length x ≤ room))
       go (stopped r at j) = ((λ e. impossible (cc)), λ h. h .0)
       go (complete L st) = tests (image (c .imageLength st) L list)
         where
@@ -44,18 +44,18 @@ module _ (c : Convention) where
 
   -- where there is room for the image, the writer with a buffer answers as the one without
   pub write-roomy : (list : List ℕ) (room : ℕ) → ((x : List ℕ) → write c list ≡ done x → length x ≤ room) → writeInto c list room ≡ write c list
-  write-roomy list room h = go (plan c true list) refl
+  write-roomy list room h = go (scan c true list) refl
     where
-      go : (q : Plan (c .State)) → plan c true list ≡ q → writePlan c (checkRoom 7 room) list q ≡ writePlan c (λ n x. x) list q
+      go : (q : Scan (c .State)) → scan c true list ≡ q → writeScan c (checkRoom 7 room) list q ≡ writeScan c (λ n x. x) list q
       go (stopped r at j) e = refl
       go (complete L st) e =
           let x : List ℕ = image (c .imageLength st) L list in
           rw (le-ltb room (length x) (h x (rw e refl)))
 
   pub read-is : (sig img x : List ℕ) (room : ℕ) → (readInto c sig img room ≡ done x) ↔ ((read c sig img ≡ done x) × (length x ≤ room))
-  read-is sig img x room = go (plan c false sig)
+  read-is sig img x room = go (scan c false sig)
     where
-      go : (q : Plan (c .State)) → (readPlan c (checkRoom 7 room) img q ≡ done x) ↔ ((readPlan c (λ n x. x) img q ≡ done x) × (length x ≤ room))
+      go : (q : Scan (c .State)) → (readScan c (checkRoom 7 room) img q ≡ done x) ↔ ((readScan c (λ n x. x) img q ≡ done x) × (length x ≤ room))
       go (stopped r at j) = ((λ e. impossible (cc)), λ h. h .0)
       go (complete L st) = tests (eqb (length img) (c .imageLength st)) (ltb room (length (reading L img))) refl
         where
@@ -115,21 +115,21 @@ checked-late (s ∷ L) img at x =
     of-either Late (proper (s .extension) (s .size) (gather img (s .carriers))) (checked-late L img (suc at) x) (inr (inr refl))
 
 module _ (c : Convention) (img : List ℕ) (room : ℕ) where
-  read-late : (L : List Placed) (st : c .State) → Late (readPlan c (checkRoom 7 room) img (complete L st))
+  read-late : (L : List Placed) (st : c .State) → Late (readScan c (checkRoom 7 room) img (complete L st))
   read-late L st =
       of-either Late (eqb (length img) (c .imageLength st)) (of-either Late (ltb room (length (reading L img))) (inr (inl refl)) (checked-late L img 0 (reading L img))) (inl refl)
 
-  pub past-signature : (L : List Placed) (st : c .State) → PastSignature (answerOf (readPlan c (checkRoom 7 room) img (complete L st)) .refusal)
-  past-signature L st = go (readPlan c (checkRoom 7 room) img (complete L st)) (read-late L st)
+  pub past-signature : (L : List Placed) (st : c .State) → PastSignature (answerOf (readScan c (checkRoom 7 room) img (complete L st)) .refusal)
+  past-signature L st = go (readScan c (checkRoom 7 room) img (complete L st)) (read-late L st)
     where
       go : (a : Outcome) → Late a → PastSignature (answerOf a .refusal)
       go (refused r at j) h = inr h
       go (done x) h = inl refl
 
   -- where no refusal by record is 0, none is
-  pub read-numbered : (q : Plan (c .State)) → ((r at j : ℕ) → q ≡ stopped r at j → 1 ≤ r) → Numbered (readPlan c (checkRoom 7 room) img q)
+  pub read-numbered : (q : Scan (c .State)) → ((r at j : ℕ) → q ≡ stopped r at j → 1 ≤ r) → Numbered (readScan c (checkRoom 7 room) img q)
   read-numbered (stopped r at j) h = h r at j refl
-  read-numbered (complete L st) h = go (readPlan c (checkRoom 7 room) img (complete L st)) (read-late L st)
+  read-numbered (complete L st) h = go (readScan c (checkRoom 7 room) img (complete L st)) (read-late L st)
     where
       go : (a : Outcome) → Late a → Numbered a
       go (refused r at j) (inl e) = omega arith

@@ -11,7 +11,7 @@ use lib.Dec.{eqb, ltb}
 use borrow.Author.Tests.{eqb-true, eqb-false, eq-eqb, ne-eqb, ltb-true, ltb-false, lt-ltb, le-ltb}
 use Rattle.answers.specs.Outcomes.{Outcome, done, refused, answerOf, checkRoom}
 use Rattle.carried.specs.Image.{checked, reading, Placed, image, listLength}
-use Rattle.carried.specs.Convention.{Convention, Plan, stopped, complete, plan, writePlan, checkImage, readPlan, writeInto, readInto}
+use Rattle.carried.specs.Convention.{Convention, Scan, stopped, complete, scan, writeScan, checkImage, readScan, writeInto, readInto}
 use Rattle.carried.proofs.Walks.{Laws, walk-of, walk-one-each}
 use Rattle.carried.proofs.Readings.{image-length, reading-length}
 use Rattle.carried.proofs.Refusals.{ImproperAt, checked-refuses}
@@ -30,13 +30,13 @@ module _ (c : Convention) where
   -- ---- the writer
 
   pub data WriteRefused (list : List ℕ) (room r place j : ℕ) : Type 0 where
-    by-record : plan c true list ≡ stopped r place j → WriteRefused list room r place j
-    short : (L : List Placed) (last : c .State) → plan c true list ≡ complete L last → room < c .imageLength last → r ≡ 7 → place ≡ 0 → j ≡ 0 → WriteRefused list room r place j
+    by-record : scan c true list ≡ stopped r place j → WriteRefused list room r place j
+    short : (L : List Placed) (last : c .State) → scan c true list ≡ complete L last → room < c .imageLength last → r ≡ 7 → place ≡ 0 → j ≡ 0 → WriteRefused list room r place j
 
   pub write-refused : (list : List ℕ) (room r place j : ℕ) → (writeInto c list room ≡ refused r place j) ↔ WriteRefused list room r place j
-  write-refused list room r place j = (λ e. go (plan c true list) refl e, back)
+  write-refused list room r place j = (λ e. go (scan c true list) refl e, back)
     where
-      go : (q : Plan (c .State)) → plan c true list ≡ q → writePlan c (checkRoom 7 room) list q ≡ refused r place j → WriteRefused list room r place j
+      go : (q : Scan (c .State)) → scan c true list ≡ q → writeScan c (checkRoom 7 room) list q ≡ refused r place j → WriteRefused list room r place j
       go (stopped r′ place′ j′) f e =
           let x : r′ ≡ r = cc in
           let y : place′ ≡ place = cc in
@@ -89,17 +89,17 @@ module _ (c : Convention) where
   -- ---- the reader
 
   pub data ReadRefused (sig img : List ℕ) (room r place j : ℕ) : Type 0 where
-    by-record : plan c false sig ≡ stopped r place j → ReadRefused sig img room r place j
-    by-image : (L : List Placed) (last : c .State) → plan c false sig ≡ complete L last → ImageRefused L last img (listLength L) room r place j → ReadRefused sig img room r place j
+    by-record : scan c false sig ≡ stopped r place j → ReadRefused sig img room r place j
+    by-image : (L : List Placed) (last : c .State) → scan c false sig ≡ complete L last → ImageRefused L last img (listLength L) room r place j → ReadRefused sig img room r place j
 
   module _ (laws : Laws c) (sig img : List ℕ) (room r place j : ℕ) where
-    exactly : (L : List Placed) (last : c .State) → plan c false sig ≡ complete L last
+    exactly : (L : List Placed) (last : c .State) → scan c false sig ≡ complete L last
         → (checkImage c (checkRoom 7 room) img L last (reading L img) ≡ refused r place j) ↔ ImageRefused L last img (listLength L) room r place j
     exactly L last f =
         image-refused L last img (listLength L) room r place j (reading L img)
         (λ e. reading-length L img (walk-one-each c laws (walk-of c laws sig (c .start) L last 0 f) .sized))
 
-    there : (q : Plan (c .State)) → plan c false sig ≡ q → readPlan c (checkRoom 7 room) img q ≡ refused r place j → ReadRefused sig img room r place j
+    there : (q : Scan (c .State)) → scan c false sig ≡ q → readScan c (checkRoom 7 room) img q ≡ refused r place j → ReadRefused sig img room r place j
     there (stopped r′ place′ j′) f e =
         let x : r′ ≡ r = cc in
         let y : place′ ≡ place = cc in
@@ -112,4 +112,4 @@ module _ (c : Convention) where
     back (by-image L last f w) = rw f (exactly L last f .1 w)
 
     pub read-refused : (readInto c sig img room ≡ refused r place j) ↔ ReadRefused sig img room r place j
-    read-refused = (there (plan c false sig) refl, back)
+    read-refused = (there (scan c false sig) refl, back)

@@ -9,11 +9,11 @@ use native.Mathlib.Omega.{arith}
 use lib.ListN.{length}
 use Rattle.answers.specs.Outcomes.{done, answerOf, checkRoom}
 use Rattle.carried.specs.Image.{reading, Placed, carried, image, listLength}
-use Rattle.carried.specs.Convention.{Convention, Plan, stopped, complete, plan, readPlan, write, read, readInto, writeInto}
+use Rattle.carried.specs.Convention.{Convention, Scan, stopped, complete, scan, readScan, write, read, readInto, writeInto}
 use Rattle.places.specs.Places.{In}
 use Rattle.carried.specs.Carried.{Carried, Accepted, Rewriting, RoundTrip}
 use Rattle.carried.proofs.Walks.{Laws, Walk, walk-of}
-use Rattle.carried.proofs.Wholeness.{plan-reading}
+use Rattle.carried.proofs.Wholeness.{scan-reading}
 use Rattle.carried.proofs.Theorem.{theorem}
 use Rattle.carried.proofs.RoundTrip.{round-trip}
 use Rattle.carried.proofs.Readings.{done-inj, reading-length}
@@ -44,29 +44,29 @@ images-as {f} {sig} {m} {n} {m′} {n′} {P} {Q} e g same w = record {
 
 -- the refusals of a signature are none of those that come after
 abbrev pub Early : Convention → Type 0
-Early c = (sig : List ℕ) (r at j : ℕ) → plan c false sig ≡ stopped r at j → PastSignature r → ⊥
+Early c = (sig : List ℕ) (r at j : ℕ) → scan c false sig ≡ stopped r at j → PastSignature r → ⊥
 
 module _ (c : Convention) (laws : Laws c) (early : Early c) (sig : List ℕ) where
   -- ---- which signatures are accepted
 
-  pub record Planned : Type 0 where
+  pub record Scanned : Type 0 where
     pub placed : List Placed
     pub last : c .State
-    pub planned : plan c false sig ≡ complete placed last
+    pub scanned : scan c false sig ≡ complete placed last
 
-  pub planned-of : (img out : List ℕ) → PastSignature (functionsOf c .read sig img out .refusal) → Planned
-  planned-of img out h = go (plan c false sig) refl h
+  pub scanned-of : (img out : List ℕ) → PastSignature (functionsOf c .read sig img out .refusal) → Scanned
+  scanned-of img out h = go (scan c false sig) refl h
     where
-      go : (q : Plan (c .State)) → plan c false sig ≡ q → PastSignature (answerOf (readPlan c (checkRoom 7 (length out)) img q) .refusal) → Planned
+      go : (q : Scan (c .State)) → scan c false sig ≡ q → PastSignature (answerOf (readScan c (checkRoom 7 (length out)) img q) .refusal) → Scanned
       go (stopped r at j) e g = absurd (early sig r at j e g)
-      go (complete L st) e g = record { placed = L; last = st; planned = e }
+      go (complete L st) e g = record { placed = L; last = st; scanned = e }
 
-  pub accepted-of : Planned → AcceptedSignature (functionsOf c) sig
-  accepted-of s img out = rw (s .planned) (past-signature c img (length out) (s .placed) (s .last))
+  pub accepted-of : Scanned → AcceptedSignature (functionsOf c) sig
+  accepted-of s img out = rw (s .scanned) (past-signature c img (length out) (s .placed) (s .last))
 
   -- ---- at one that is
 
-  module _ (s : Planned) where
+  module _ (s : Scanned) where
     abbrev L : List Placed
     L = s .placed
 
@@ -77,13 +77,13 @@ module _ (c : Convention) (laws : Laws c) (early : Early c) (sig : List ℕ) whe
     m = listLength L
 
     carried-bytes : Carried c sig L n
-    carried-bytes = theorem c laws sig L (s .last) (s .planned)
+    carried-bytes = theorem c laws sig L (s .last) (s .scanned)
 
     signature-walk : Walk c laws (c .start) sig L (s .last)
-    signature-walk = walk-of c laws sig (c .start) L (s .last) 0 (s .planned)
+    signature-walk = walk-of c laws sig (c .start) L (s .last) 0 (s .scanned)
 
-    numbered : (r at j : ℕ) → plan c false sig ≡ stopped r at j → 1 ≤ r
-    numbered r at j e = impossible (cc (s .planned))
+    numbered : (r at j : ℕ) → scan c false sig ≡ stopped r at j → 1 ≤ r
+    numbered r at j e = impossible (cc (s .scanned))
 
     read-long : (a x : List ℕ) → read c sig a ≡ done x → length x ≡ m
     read-long a x e = ap length (done-inj (sym e ∙ carried-bytes .accepts a (carried-bytes .accepted a x e))) ∙ reading-length L a (carried-bytes .one-each .sized)
@@ -92,7 +92,7 @@ module _ (c : Convention) (laws : Laws c) (early : Early c) (sig : List ℕ) whe
     pub reads : (u : LentBuffers m n) (a : List ℕ) → Accepts (functionsOf c) sig u a → read c sig a ≡ done (readingOf (functionsOf c) sig u a)
     reads u a h =
         read-is c sig a (readingOf (functionsOf c) sig u a) (length (u .list)) .0
-        (accepted-done (u .list) (readInto c sig a (length (u .list))) (read-numbered c a (length (u .list)) (plan c false sig) numbered) h) .0
+        (accepted-done (u .list) (readInto c sig a (length (u .list))) (read-numbered c a (length (u .list)) (scan c false sig) numbered) h) .0
 
     pub is-read : (u : LentBuffers m n) (a x : List ℕ) → read c sig a ≡ done x → Accepts (functionsOf c) sig u a × (readingOf (functionsOf c) sig u a ≡ x)
     is-read u a x e =
@@ -140,7 +140,7 @@ module _ (c : Convention) (laws : Laws c) (early : Early c) (sig : List ℕ) whe
     some-image u =
         let list : List ℕ = reading L [] in
         let a : List ℕ = image n L list in
-        let w : RoundTrip c list L (s .last) = round-trip c laws list L (s .last) (plan-reading c laws signature-walk [] 0) in
+        let w : RoundTrip c list L (s .last) = round-trip c laws list L (s .last) (scan-reading c laws signature-walk [] 0) in
         (a, is-read u a (reading L a) (carried-bytes .accepts a (w .accepted)) .0)
 
     pub accepted-images : AcceptedImages (functionsOf c) sig m n (λ p. In p (carried L))

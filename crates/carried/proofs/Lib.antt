@@ -1,5 +1,5 @@
 pub mod Readings
-pub mod Plans
+pub mod Scans
 pub mod Walks
 pub mod Wholeness
 pub mod Theorem

@@ -1,4 +1,4 @@
--- One record at a place of a list or a signature: the plan from there is its refusal, or its record and the plan after it.
+-- One record at a place of a list or a signature: the scan from there is its refusal, or its record and the scan after it.
 -- Assumes nothing.
 use mathlib.Core.Path.{_≡_, refl, _∙_, subst}
 use mathlib.Core.List.{List, [], _∷_}
@@ -11,10 +11,10 @@ use lib.ListN.{length, getD, drop, length-drop}
 use lib.Seq.{drop-cons, drop-drop, drop-length}
 use lib.Dec.{ltb}
 use borrow.Author.Tests.{ltb-false}
-use Rattle.carried.specs.Convention.{Step, refuse, next, Convention, Plan, stopped, complete, prepend, bodyLength, limited, taken, proceed, planFrom}
+use Rattle.carried.specs.Convention.{Step, refuse, next, Convention, Scan, stopped, complete, prepend, bodyLength, limited, taken, proceed, scanFrom}
 
 module _ (c : Convention) (bodies : Bool) where
-  pass-body : (n at : ℕ) (st : c .State) (l : List ℕ) → n ≤ length l → planFrom c bodies at st n l ≡ planFrom c bodies (at + n) st 0 (drop n l)
+  pass-body : (n at : ℕ) (st : c .State) (l : List ℕ) → n ≤ length l → scanFrom c bodies at st n l ≡ scanFrom c bodies (at + n) st 0 (drop n l)
   pass-body zero at st l h = rw add-zero
   pass-body (suc n) at st [] h = absurd (omega arith)
   pass-body (suc n) at st (b ∷ l) h = pass-body n (suc at) st l (omega arith) ∙ rw (suc-add, ← add-suc)
@@ -34,11 +34,11 @@ module _ (c : Convention) (bodies : Bool) where
       go false e true = ltb-false left (bodyLength bodies (c .placedAt k j p .size)) e
 
   module _ (list : List ℕ) where
-    -- the plan from the record at this place on
-    abbrev pub planAt : ℕ → c .State → Plan (c .State)
-    planAt at st = planFrom c bodies at st 0 (drop at list)
+    -- the scan from the record at this place on
+    abbrev pub scanAt : ℕ → c .State → Scan (c .State)
+    scanAt at st = scanFrom c bodies at st 0 (drop at list)
 
-    pub records-end : (at : ℕ) (st : c .State) → at ≤ length list → length list ≤ at → planAt at st ≡ complete [] st
+    pub records-end : (at : ℕ) (st : c .State) → at ≤ length list → length list ≤ at → scanAt at st ≡ complete [] st
     records-end at st h g = let e : at ≡ length list = omega arith in rw (e, drop-length)
 
     module _ (at : ℕ) (st : c .State) (h : at < length list) where
@@ -48,17 +48,17 @@ module _ (c : Convention) (bodies : Bool) where
       abbrev pub answered : Step (c .Placement) (c .State)
       answered = taken c bodies (length list - (at + 1)) st kindAt
 
-      here : planAt at st ≡ proceed c at kindAt answered (λ size st′. planFrom c bodies (suc at) st′ (bodyLength bodies size) (drop (suc at) list))
+      here : scanAt at st ≡ proceed c at kindAt answered (λ size st′. scanFrom c bodies (suc at) st′ (bodyLength bodies size) (drop (suc at) list))
       here = rw (drop-cons list at 0 h, length-drop (suc at) list, add-one at)
 
-      pub record-stops : (r j : ℕ) → answered ≡ refuse r j → planAt at st ≡ stopped r at j
+      pub record-stops : (r j : ℕ) → answered ≡ refuse r j → scanAt at st ≡ stopped r at j
       record-stops r j e = here ∙ rw e
 
       pub taken-inside : (j : ℕ) (p : c .Placement) (st′ : c .State) → answered ≡ next j p st′ → at + 1 + bodyLength bodies (c .placedAt kindAt j p .size) ≤ length list
       taken-inside j p st′ e = omega (arith, subst (Uncut (length list - (at + 1)) kindAt) e (uncut (length list - (at + 1)) kindAt (c .step st kindAt)))
 
       pub record-goes-on : (j : ℕ) (p : c .Placement) (st′ : c .State) → answered ≡ next j p st′
-          → planAt at st ≡ prepend (c .placedAt kindAt j p) (planAt (at + 1 + bodyLength bodies (c .placedAt kindAt j p .size)) st′)
+          → scanAt at st ≡ prepend (c .placedAt kindAt j p) (scanAt (at + 1 + bodyLength bodies (c .placedAt kindAt j p .size)) st′)
       record-goes-on j p st′ e =
           let n : ℕ = bodyLength bodies (c .placedAt kindAt j p .size) in
           let w : at + 1 + n ≤ length list = taken-inside j p st′ e in

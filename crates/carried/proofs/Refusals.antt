@@ -13,9 +13,9 @@ use lib.Dec.{ltb}
 use borrow.Author.Tests.{le-ltb, ltb-false}
 use Rattle.carried.specs.Image.{Placed, checked}
 use Rattle.answers.specs.Outcomes.{Outcome, done, refused}
-use Rattle.carried.specs.Convention.{Step, refuse, next, Convention, Plan, stopped, complete, prepend, bodyLength, limited, taken, proceed, planFrom, plan}
+use Rattle.carried.specs.Convention.{Step, refuse, next, Convention, Scan, stopped, complete, prepend, bodyLength, limited, taken, proceed, scanFrom, scan}
 use Rattle.carried.specs.Carried.{AllProper}
-use Rattle.carried.proofs.Plans.{by-records}
+use Rattle.carried.proofs.Scans.{by-records}
 use Rattle.carried.proofs.Readings.{isProper}
 use Rattle.words.proofs.Impossible.{impossible}
 
@@ -28,7 +28,7 @@ module _ (c : Convention) (bodies : Bool) where
     inside : index < length l
     before : List Placed
     last : c .State
-    accepted : planFrom c bodies at st n (take index l) ≡ complete before last
+    accepted : scanFrom c bodies at st n (take index l) ≡ complete before last
     refusal : taken c bodies (length l - (index + 1)) last (getD l index 0) ≡ refuse r j
 
   -- ---- a refusal has such a record
@@ -58,14 +58,14 @@ module _ (c : Convention) (bodies : Bool) where
         refusal = rw m (w .refusal);
       }
 
-  abbrev Found : ℕ → ℕ → c .State → List ℕ → Plan (c .State) → Type 0
+  abbrev Found : ℕ → ℕ → c .State → List ℕ → Scan (c .State) → Type 0
   Found at n st l (stopped r place j) = Stop at n st l r place j
   Found at n st l (complete L last) = Unit {0}
 
-  found : (l : List ℕ) (at n : ℕ) (st : c .State) → Found at n st l (planFrom c bodies at st n l)
+  found : (l : List ℕ) (at n : ℕ) (st : c .State) → Found at n st l (scanFrom c bodies at st n l)
   found = by-records c bodies (λ at n st l q. Found at n st l q) (λ at n st. tt) pass first join
     where
-      pass : (b at n : ℕ) (st : c .State) (l : List ℕ) (q : Plan (c .State)) → Found (suc at) n st l q → Found at (suc n) st (b ∷ l) q
+      pass : (b at n : ℕ) (st : c .State) (l : List ℕ) (q : Scan (c .State)) → Found (suc at) n st l q → Found at (suc n) st (b ∷ l) q
       pass b at n st l (stopped r place j) w =
           let m : length (b ∷ l) - (suc (w .index) + 1) ≡ length l - (w .index + 1) = omega arith in
           record {
@@ -81,44 +81,44 @@ module _ (c : Convention) (bodies : Bool) where
       pass b at n st l (complete L last) w = tt
 
       join : (at : ℕ) (st : c .State) (k : ℕ) (l : List ℕ) (j : ℕ) (p : c .Placement) (st′ : c .State) → c .step st k ≡ next j p st′ → c .fits st′ ≡ true
-          → bodyLength bodies (c .placedAt k j p .size) ≤ length l → (q : Plan (c .State)) → Found (suc at) (bodyLength bodies (c .placedAt k j p .size)) st′ l q
+          → bodyLength bodies (c .placedAt k j p .size) ≤ length l → (q : Scan (c .State)) → Found (suc at) (bodyLength bodies (c .placedAt k j p .size)) st′ l q
           → Found at 0 st (k ∷ l) (prepend (c .placedAt k j p) q)
       join at st k l j p st′ e f h (stopped r place i) w = later at st k l r place i j p st′ e f w
       join at st k l j p st′ e f h (complete L last) w = tt
 
   -- ---- and such a record is the refusal
 
-  -- the plan after a first record that is placed, of a part of the bytes and of them all
+  -- the scan after a first record that is placed, of a part of the bytes and of them all
   record Passes (at : ℕ) (st : c .State) (k : ℕ) (part l : List ℕ) (last : c .State) : Type 0 where
     n : ℕ
     next-state : c .State
     rest : List Placed
     short : n ≤ length part
-    accepted : planFrom c bodies (suc at) next-state n part ≡ complete rest last
-    whole : (r place j : ℕ) → planFrom c bodies (suc at) next-state n l ≡ stopped r place j → planFrom c bodies at st 0 (k ∷ l) ≡ stopped r place j
+    accepted : scanFrom c bodies (suc at) next-state n part ≡ complete rest last
+    whole : (r place j : ℕ) → scanFrom c bodies (suc at) next-state n l ≡ stopped r place j → scanFrom c bodies at st 0 (k ∷ l) ≡ stopped r place j
 
   passes : (at : ℕ) (st : c .State) (k : ℕ) (part l : List ℕ) → length part ≤ length l → (L : List Placed) (last : c .State)
-      → planFrom c bodies at st 0 (k ∷ part) ≡ complete L last → Passes at st k part l last
+      → scanFrom c bodies at st 0 (k ∷ part) ≡ complete L last → Passes at st k part l last
   passes at st k part l h L last e = go (c .step st k) refl e
     where
-      rests : (s : Placed) (q : Plan (c .State)) → prepend s q ≡ complete L last → (M : List Placed) × (q ≡ complete M last)
+      rests : (s : Placed) (q : Scan (c .State)) → prepend s q ≡ complete L last → (M : List Placed) × (q ≡ complete M last)
       rests s (stopped r p j) g = impossible (cc)
       rests s (complete M st′) g = let i : st′ ≡ last = cc in (M, rw i refl)
 
       go : (s : Step (c .Placement) (c .State)) → c .step st k ≡ s
-          → proceed c at k (limited c bodies (length part) k s) (λ size st′. planFrom c bodies (suc at) st′ (bodyLength bodies size) part) ≡ complete L last → Passes at st k part l last
+          → proceed c at k (limited c bodies (length part) k s) (λ size st′. scanFrom c bodies (suc at) st′ (bodyLength bodies size) part) ≡ complete L last → Passes at st k part l last
       go (refuse r j) f g = impossible (cc)
       go (next j p st′) f g = tests (ltb (length part) (bodyLength bodies (c .placedAt k j p .size))) (c .fits st′) refl refl g
         where
           tests : (t u : Bool) → ltb (length part) (bodyLength bodies (c .placedAt k j p .size)) ≡ t → c .fits st′ ≡ u
-              → proceed c at k (cond t (refuse 4 j) (cond u (next j p st′) (refuse 5 j))) (λ size st″. planFrom c bodies (suc at) st″ (bodyLength bodies size) part) ≡ complete L last → Passes at st k part l last
+              → proceed c at k (cond t (refuse 4 j) (cond u (next j p st′) (refuse 5 j))) (λ size st″. scanFrom c bodies (suc at) st″ (bodyLength bodies size) part) ≡ complete L last → Passes at st k part l last
           tests true u x y i = impossible (cc)
           tests false false x y i = impossible (cc)
           tests false true x y i =
               let b : ℕ = bodyLength bodies (c .placedAt k j p .size) in
               let short : b ≤ length part = ltb-false (length part) b x in
               let uncut : ltb (length l) b ≡ false = le-ltb (length l) b (omega arith) in
-              let w = rests (c .placedAt k j p) (planFrom c bodies (suc at) st′ b part) i in
+              let w = rests (c .placedAt k j p) (scanFrom c bodies (suc at) st′ b part) i in
               record {
                 n = b;
                 next-state = st′;
@@ -128,8 +128,8 @@ module _ (c : Convention) (bodies : Bool) where
                 whole = λ r place j′ v. rw (f, uncut, y, v);
               }
 
-  refused-there : (l : List ℕ) (at n : ℕ) (st : c .State) (i : ℕ) (L : List Placed) (last : c .State) (r j : ℕ) → n ≤ i → i < length l → planFrom c bodies at st n (take i l) ≡ complete L last
-      → taken c bodies (length l - (i + 1)) last (getD l i 0) ≡ refuse r j → planFrom c bodies at st n l ≡ stopped r (at + i) j
+  refused-there : (l : List ℕ) (at n : ℕ) (st : c .State) (i : ℕ) (L : List Placed) (last : c .State) (r j : ℕ) → n ≤ i → i < length l → scanFrom c bodies at st n (take i l) ≡ complete L last
+      → taken c bodies (length l - (i + 1)) last (getD l i 0) ≡ refuse r j → scanFrom c bodies at st n l ≡ stopped r (at + i) j
   refused-there [] at n st i L last r j h g e f = absurd (omega arith)
   refused-there (b ∷ l) at (suc n) st zero L last r j h g e f = absurd (omega arith)
   refused-there (b ∷ l) at (suc n) st (suc i) L last r j h g e f =
@@ -155,19 +155,19 @@ module _ (c : Convention) (bodies : Bool) where
     pub inside : place < length l
     pub before : List Placed
     pub last : c .State
-    pub accepted : plan c bodies (take place l) ≡ complete before last
+    pub accepted : scan c bodies (take place l) ≡ complete before last
     pub refusal : taken c bodies (length l - (place + 1)) last (getD l place 0) ≡ refuse r j
 
-  pub plan-stops : (l : List ℕ) (r place j : ℕ) → (plan c bodies l ≡ stopped r place j) ↔ StopsAt l r place j
-  plan-stops l r place j = (there, back)
+  pub scan-stops : (l : List ℕ) (r place j : ℕ) → (scan c bodies l ≡ stopped r place j) ↔ StopsAt l r place j
+  scan-stops l r place j = (there, back)
     where
-      there : plan c bodies l ≡ stopped r place j → StopsAt l r place j
+      there : scan c bodies l ≡ stopped r place j → StopsAt l r place j
       there e =
           let w : Stop 0 0 (c .start) l r place j = subst (Found 0 0 (c .start) l) e (found l 0 0 (c .start)) in
           let i : w .index ≡ place = omega (arith, w .placed) in
           rw (← i) (record { inside = w .inside; before = w .before; last = w .last; accepted = w .accepted; refusal = w .refusal })
 
-      back : StopsAt l r place j → plan c bodies l ≡ stopped r place j
+      back : StopsAt l r place j → scan c bodies l ≡ stopped r place j
       back w =
           let x : 0 + place ≡ place = omega arith in
           refused-there l 0 0 (c .start) place (w .before) (w .last) r j (omega arith) (w .inside) (w .accepted) (w .refusal) ∙ rw x

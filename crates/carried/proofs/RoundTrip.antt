@@ -12,12 +12,12 @@ use Rattle.words.proofs.Bytes.{same-true}
 use Rattle.places.specs.Places.{gather}
 use Rattle.carried.specs.Image.{Placed, carried, promotedBytes, image, reading}
 use Rattle.answers.specs.Outcomes.{done}
-use Rattle.carried.specs.Convention.{Convention, complete, plan}
+use Rattle.carried.specs.Convention.{Convention, complete, scan}
 use Rattle.carried.specs.Carried.{Sized, kinds, OneEach, AllProper, Accepted, RoundTrip}
 use Rattle.places.proofs.Places.{length-gather, gather-append, gather-put}
 use Rattle.carried.proofs.Walks.{Laws, Walk, walk-by-kinds, walk-one-each}
 use Rattle.carried.proofs.Readings.{image-length}
-use Rattle.carried.proofs.Wholeness.{Whole, whole-kinds, plan-whole, whole-plan}
+use Rattle.carried.proofs.Wholeness.{Whole, whole-kinds, scan-whole, whole-scan}
 use Rattle.carried.proofs.Theorem.{theorem}
 
 -- ---- one record
@@ -70,7 +70,7 @@ module _ (img : List ℕ) where
 
 -- ---- the theorem
 
-module _ (c : Convention) (laws : Laws c) (l : List ℕ) (L : List Placed) (last : c .State) (ok : plan c true l ≡ complete L last) where
+module _ (c : Convention) (laws : Laws c) (l : List ℕ) (L : List Placed) (last : c .State) (ok : scan c true l ≡ complete L last) where
   signature-walk : Walk c laws (c .start) (kinds L) L last
   signature-walk = walk-by-kinds c laws true l L last ok
 
@@ -78,7 +78,7 @@ module _ (c : Convention) (laws : Laws c) (l : List ℕ) (L : List Placed) (last
   one-each = walk-one-each c laws signature-walk
 
   whole : Whole true L l
-  whole = plan-whole c laws true l L last ok
+  whole = scan-whole c laws true l L last ok
 
   long-values : (M : List Placed) (x : List ℕ) → Sized M → Whole true M x → length (promotedBytes M x) ≡ length (carried M)
   long-values [] x z w = refl
@@ -97,7 +97,7 @@ module _ (c : Convention) (laws : Laws c) (l : List ℕ) (L : List Placed) (last
 
   pub round-trip : RoundTrip c l L last
   round-trip =
-      let signed : plan c false (kinds L) ≡ complete L last = whole-plan c laws false signature-walk (kinds L) 0 (whole-kinds L) in
+      let signed : scan c false (kinds L) ≡ complete L last = whole-scan c laws false signature-walk (kinds L) 0 (whole-kinds L) in
       let b : Back img L l = back img L l (one-each .sized) whole stored in
       let a : Accepted (c .imageLength last) L img = record {
         whole = image-length (c .imageLength last) L l;

@@ -9,12 +9,12 @@ use lib.Dec.{eqb}
 use borrow.Author.Tests.{eqb-true, eq-eqb}
 use Rattle.carried.specs.Image.{Placed, image, reading, checked}
 use Rattle.answers.specs.Outcomes.{Outcome, done, refused}
-use Rattle.carried.specs.Convention.{Convention, complete, plan, write, read}
+use Rattle.carried.specs.Convention.{Convention, complete, scan, write, read}
 use Rattle.carried.specs.Carried.{OneEach, Carried, Accepted}
 use Rattle.carried.proofs.Readings as R
 use Rattle.carried.proofs.Readings.{done-inj, Passed, checked-accepts, checked-passes}
 use Rattle.carried.proofs.Walks.{Laws, Walk, walk-of, walk-kinds, walk-one-each}
-use Rattle.carried.proofs.Wholeness.{plan-reading}
+use Rattle.carried.proofs.Wholeness.{scan-reading}
 
 -- what an image that the reader accepts is, and that such an image is accepted
 abbrev Reads : ℕ → List Placed → List ℕ → Outcome → Type 0
@@ -29,7 +29,7 @@ reads n L img = go (eqb (length img) n) refl (checked 8 0 L img (done (reading L
     go true e (refused r at j) h = tt
     go true e (done x) h = (record { whole = eqb-true (length img) n e; promoted = h .0 }, h .1)
 
-module _ (c : Convention) (laws : Laws c) (sig : List ℕ) (L : List Placed) (last : c .State) (ok : plan c false sig ≡ complete L last) where
+module _ (c : Convention) (laws : Laws c) (sig : List ℕ) (L : List Placed) (last : c .State) (ok : scan c false sig ≡ complete L last) where
   abbrev n : ℕ
   n = c .imageLength last
 
@@ -46,7 +46,7 @@ module _ (c : Convention) (laws : Laws c) (sig : List ℕ) (L : List Placed) (la
   to-read a o = rw (ok, eq-eqb (length a) n (o .whole)) (checked-accepts L a (reading L a) 0 (o .promoted))
 
   write-reading : (a x : List ℕ) → reading L a ≡ x → write c x ≡ done (image n L x)
-  write-reading a x e = rw (← e, plan-reading c laws signature-walk a 0)
+  write-reading a x e = rw (← e, scan-reading c laws signature-walk a 0)
 
   rewritten : (a x r : List ℕ) → reading L a ≡ x → write c x ≡ done r → R.rewriting n L a ≡ r
   rewritten a x r e w = ap (image n L) e ∙ done-inj (sym (write-reading a x e) ∙ w)

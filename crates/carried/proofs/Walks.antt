@@ -8,11 +8,11 @@ use native.Mathlib.Omega.{arith}
 use lib.ListN.{length}
 use Rattle.words.specs.Words.{promote}
 use Rattle.carried.specs.Image.{Placed, carried}
-use Rattle.carried.specs.Convention.{Step, refuse, next, Convention, Plan, stopped, complete, prepend, bodyLength, planFrom, plan}
+use Rattle.carried.specs.Convention.{Step, refuse, next, Convention, Scan, stopped, complete, prepend, bodyLength, scanFrom, scan}
 use Rattle.places.specs.Places.{In, Distinct}
 use Rattle.carried.specs.Carried.{Sized, kinds, OneEach}
 use Rattle.places.proofs.Places.{in-cases, distinct-append}
-use Rattle.carried.proofs.Plans.{by-records}
+use Rattle.carried.proofs.Scans.{by-records}
 
 -- Free st p: image byte p may still be given to an argument after this state. What one step must give: the
 -- bytes of its record were free, are used after it, are distinct, are one for each byte of the argument, and lie in the image.
@@ -41,33 +41,33 @@ module _ (c : Convention) (laws : Laws c) where
     one : {st st′ last : c .State} {k j : ℕ} {p : c .Placement} {ks : List ℕ} {L : List Placed}
         → c .step st k ≡ next j p st′ → c .fits st′ ≡ true → Walk st′ ks L last → Walk st (k ∷ ks) (c .placedAt k j p ∷ L) last
 
-  -- the records of a plan walk by some kinds; those of a signature by the signature itself
+  -- the records of a scan walk by some kinds; those of a signature by the signature itself
   pub record Walked (bodies : Bool) (n : ℕ) (l : List ℕ) (st : c .State) (L : List Placed) (last : c .State) : Type 0 where
     pub kinds-of : List ℕ
     pub walk : Walk st kinds-of L last
     pub all : bodies ≡ false → n ≡ 0 → kinds-of ≡ l
 
-  abbrev Found : Bool → ℕ → List ℕ → c .State → Plan (c .State) → Type 0
+  abbrev Found : Bool → ℕ → List ℕ → c .State → Scan (c .State) → Type 0
   Found bodies n l st (stopped r at j) = Unit {0}
   Found bodies n l st (complete L last) = Walked bodies n l st L last
 
-  found : (bodies : Bool) (l : List ℕ) (at n : ℕ) (st : c .State) → Found bodies n l st (planFrom c bodies at st n l)
+  found : (bodies : Bool) (l : List ℕ) (at n : ℕ) (st : c .State) → Found bodies n l st (scanFrom c bodies at st n l)
   found bodies = by-records c bodies (λ at n st l q. Found bodies n l st q) (λ at n st. record { kinds-of = []; walk = end; all = λ b z. refl }) pass (λ at st k l r j s. tt) join
     where
-      pass : (b at n : ℕ) (st : c .State) (l : List ℕ) (q : Plan (c .State)) → Found bodies n l st q → Found bodies (suc n) (b ∷ l) st q
+      pass : (b at n : ℕ) (st : c .State) (l : List ℕ) (q : Scan (c .State)) → Found bodies n l st q → Found bodies (suc n) (b ∷ l) st q
       pass b at n st l (stopped r at′ j) w = tt
       pass b at n st l (complete L last) w = record { kinds-of = w .kinds-of; walk = w .walk; all = λ b z. absurd (omega arith) }
 
       join : (at : ℕ) (st : c .State) (k : ℕ) (l : List ℕ) (j : ℕ) (p : c .Placement) (st′ : c .State) → c .step st k ≡ next j p st′ → c .fits st′ ≡ true
-          → bodyLength bodies (c .placedAt k j p .size) ≤ length l → (q : Plan (c .State)) → Found bodies (bodyLength bodies (c .placedAt k j p .size)) l st′ q
+          → bodyLength bodies (c .placedAt k j p .size) ≤ length l → (q : Scan (c .State)) → Found bodies (bodyLength bodies (c .placedAt k j p .size)) l st′ q
           → Found bodies 0 (k ∷ l) st (prepend (c .placedAt k j p) q)
       join at st k l j p st′ e f h (stopped r at′ i) w = tt
       join at st k l j p st′ e f h (complete L last) w = record { kinds-of = k ∷ w .kinds-of; walk = one e f (w .walk); all = λ b y. ap (λ (r : List ℕ). k ∷ r) (w .all b (rw b refl)) }
 
-  pub walked : (bodies : Bool) (l : List ℕ) (at n : ℕ) (st : c .State) (L : List Placed) (last : c .State) → planFrom c bodies at st n l ≡ complete L last → Walked bodies n l st L last
+  pub walked : (bodies : Bool) (l : List ℕ) (at n : ℕ) (st : c .State) (L : List Placed) (last : c .State) → scanFrom c bodies at st n l ≡ complete L last → Walked bodies n l st L last
   walked bodies l at n st L last e = subst (Found bodies n l st) e (found bodies l at n st)
 
-  pub walk-of : (ks : List ℕ) (st : c .State) (L : List Placed) (last : c .State) (at : ℕ) → planFrom c false at st 0 ks ≡ complete L last → Walk st ks L last
+  pub walk-of : (ks : List ℕ) (st : c .State) (L : List Placed) (last : c .State) (at : ℕ) → scanFrom c false at st 0 ks ≡ complete L last → Walk st ks L last
   walk-of ks st L last at e =
       let w : Walked false 0 ks st L last = walked false ks at 0 st L last e in
       subst (λ (x : List ℕ). Walk st x L last) (w .all refl refl) (w .walk)
@@ -84,7 +84,7 @@ module _ (c : Convention) (laws : Laws c) where
   walk-kinds (one e f w) = ap₂ (λ (k : ℕ) (r : List ℕ). k ∷ r) (laws-at e .kind) (walk-kinds w)
 
   -- what is accepted walks by its kinds
-  pub walk-by-kinds : (bodies : Bool) (l : List ℕ) (L : List Placed) (last : c .State) → plan c bodies l ≡ complete L last → Walk (c .start) (kinds L) L last
+  pub walk-by-kinds : (bodies : Bool) (l : List ℕ) (L : List Placed) (last : c .State) → scan c bodies l ≡ complete L last → Walk (c .start) (kinds L) L last
   walk-by-kinds bodies l L last e =
       let w : Walked bodies 0 l (c .start) L last = walked bodies l 0 0 (c .start) L last e in
       subst (λ (ks : List ℕ). Walk (c .start) ks L last) (sym (walk-kinds (w .walk))) (w .walk)

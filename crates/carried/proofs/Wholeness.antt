@@ -11,9 +11,9 @@ use lib.Dec.{ltb}
 use borrow.Author.Tests.{le-ltb}
 use Rattle.words.specs.Words.{body}
 use Rattle.carried.specs.Image.{Placed, reading}
-use Rattle.carried.specs.Convention.{next, Convention, Plan, stopped, complete, prepend, bodyLength, planFrom, plan}
+use Rattle.carried.specs.Convention.{next, Convention, Scan, stopped, complete, prepend, bodyLength, scanFrom, scan}
 use Rattle.carried.specs.Carried.{Sized, kinds}
-use Rattle.carried.proofs.Plans.{by-records}
+use Rattle.carried.proofs.Scans.{by-records}
 use Rattle.carried.proofs.Readings.{bytesIn, length-body, fits-carriers}
 use Rattle.carried.proofs.Walks.{laws-at, Laws, Walk, end, one, walk-sized}
 
@@ -33,49 +33,49 @@ whole-reading (s ∷ L) img z = (body (s .size) (bytesIn s img), reading L img, 
 module _ (c : Convention) (laws : Laws c) (bodies : Bool) where
   -- ---- what is accepted is whole
 
-  abbrev Found : ℕ → List ℕ → Plan (c .State) → Type 0
+  abbrev Found : ℕ → List ℕ → Scan (c .State) → Type 0
   Found n l (stopped r at j) = Unit {0}
   Found n l (complete L last) = n ≤ length l → Whole bodies L (drop n l)
 
-  found : (l : List ℕ) (at n : ℕ) (st : c .State) → Found n l (planFrom c bodies at st n l)
+  found : (l : List ℕ) (at n : ℕ) (st : c .State) → Found n l (scanFrom c bodies at st n l)
   found = by-records c bodies (λ at n st l q. Found n l q) (λ at n st h. drop-nil n) pass (λ at st k l r j s. tt) join
     where
-      pass : (b at n : ℕ) (st : c .State) (l : List ℕ) (q : Plan (c .State)) → Found n l q → Found (suc n) (b ∷ l) q
+      pass : (b at n : ℕ) (st : c .State) (l : List ℕ) (q : Scan (c .State)) → Found n l q → Found (suc n) (b ∷ l) q
       pass b at n st l (stopped r at′ j) w = tt
       pass b at n st l (complete L last) w = λ h. w (omega arith)
 
       join : (at : ℕ) (st : c .State) (k : ℕ) (l : List ℕ) (j : ℕ) (p : c .Placement) (st′ : c .State) → c .step st k ≡ next j p st′ → c .fits st′ ≡ true
-          → bodyLength bodies (c .placedAt k j p .size) ≤ length l → (q : Plan (c .State)) → Found (bodyLength bodies (c .placedAt k j p .size)) l q
+          → bodyLength bodies (c .placedAt k j p .size) ≤ length l → (q : Scan (c .State)) → Found (bodyLength bodies (c .placedAt k j p .size)) l q
           → Found 0 (k ∷ l) (prepend (c .placedAt k j p) q)
       join at st k l j p st′ e f h (stopped r at′ i) w = tt
       join at st k l j p st′ e f h (complete L last) w = λ g.
           let n : ℕ = bodyLength bodies (c .placedAt k j p .size) in
           (take n l, drop n l, ap₂ (λ (x : ℕ) (y : List ℕ). x ∷ y) (sym (laws-at c laws e .kind)) (sym (take-append-drop n l)), length-take-le n l h, w h)
 
-  pub plan-whole : (l : List ℕ) (L : List Placed) (last : c .State) → plan c bodies l ≡ complete L last → Whole bodies L l
-  plan-whole l L last ok = subst (Found 0 l) ok (found l 0 0 (c .start)) (omega arith)
+  pub scan-whole : (l : List ℕ) (L : List Placed) (last : c .State) → scan c bodies l ≡ complete L last → Whole bodies L l
+  scan-whole l L last ok = subst (Found 0 l) ok (found l 0 0 (c .start)) (omega arith)
 
   -- ---- what is whole and walks is accepted
 
   -- the bytes of a body are passed over
-  pass-body : (b l : List ℕ) (n at : ℕ) (st : c .State) (q : Plan (c .State)) → length b ≡ n → ((at′ : ℕ) → planFrom c bodies at′ st 0 l ≡ q) → planFrom c bodies at st n (b ++ l) ≡ q
+  pass-body : (b l : List ℕ) (n at : ℕ) (st : c .State) (q : Scan (c .State)) → length b ≡ n → ((at′ : ℕ) → scanFrom c bodies at′ st 0 l ≡ q) → scanFrom c bodies at st n (b ++ l) ≡ q
   pass-body [] l zero at st q e h = h at
   pass-body [] l (suc n) at st q e h = absurd (omega arith)
   pass-body (x ∷ b) l zero at st q e h = absurd (omega arith)
   pass-body (x ∷ b) l (suc n) at st q e h = pass-body b l n (suc at) st q (omega arith) h
 
-  pub whole-plan : {st last : c .State} {ks : List ℕ} {L : List Placed} → Walk c laws st ks L last → (l : List ℕ) (at : ℕ) → Whole bodies L l → planFrom c bodies at st 0 l ≡ complete L last
-  whole-plan (end {st = st}) l at w = ap (planFrom c bodies at st 0) w
-  whole-plan (one {st = st} {st′ = st′} {last = last} {k = k} {j = j} {p = p} {L = L} e f w) l at v =
+  pub whole-scan : {st last : c .State} {ks : List ℕ} {L : List Placed} → Walk c laws st ks L last → (l : List ℕ) (at : ℕ) → Whole bodies L l → scanFrom c bodies at st 0 l ≡ complete L last
+  whole-scan (end {st = st}) l at w = ap (scanFrom c bodies at st 0) w
+  whole-scan (one {st = st} {st′ = st′} {last = last} {k = k} {j = j} {p = p} {L = L} e f w) l at v =
       let s : Placed = c .placedAt k j p in
       let n : ℕ = bodyLength bodies (s .size) in
       let m : List ℕ = v .0 ++ v .1 in
       let is : l ≡ k ∷ m = v .2 ∙ ap (λ (x : ℕ). x ∷ m) (laws-at c laws e .kind) in
       let uncut : ltb (length m) n ≡ false = le-ltb (length m) n (omega (arith, length-append (v .0) (v .1), v .3)) in
-      let rest : planFrom c bodies (suc at) st′ n m ≡ complete L last = pass-body (v .0) (v .1) n (suc at) st′ (complete L last) (v .3) (λ at′. whole-plan w (v .1) at′ (v .4)) in
-      ap (planFrom c bodies at st 0) is ∙ rw (e, uncut, f, rest)
+      let rest : scanFrom c bodies (suc at) st′ n m ≡ complete L last = pass-body (v .0) (v .1) n (suc at) st′ (complete L last) (v .3) (λ at′. whole-scan w (v .1) at′ (v .4)) in
+      ap (scanFrom c bodies at st 0) is ∙ rw (e, uncut, f, rest)
 
 -- the records of a reading are placed as those of its signature are
-pub plan-reading : (c : Convention) (laws : Laws c) {st last : c .State} {ks : List ℕ} {L : List Placed} → Walk c laws st ks L last → (img : List ℕ) (at : ℕ)
-    → planFrom c true at st 0 (reading L img) ≡ complete L last
-plan-reading c laws {L = L} w img at = whole-plan c laws true w (reading L img) at (whole-reading L img (walk-sized c laws w))
+pub scan-reading : (c : Convention) (laws : Laws c) {st last : c .State} {ks : List ℕ} {L : List Placed} → Walk c laws st ks L last → (img : List ℕ) (at : ℕ)
+    → scanFrom c true at st 0 (reading L img) ≡ complete L last
+scan-reading c laws {L = L} w img at = whole-scan c laws true w (reading L img) at (whole-reading L img (walk-sized c laws w))

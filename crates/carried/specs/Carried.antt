@@ -10,7 +10,7 @@ use Rattle.words.specs.Words.{promote, proper}
 use Rattle.carried.specs.Image.{Placed, carried, promotedBytes, image, reading}
 use Rattle.answers.specs.Outcomes.{done}
 use Rattle.places.specs.Places.{gather, In, Distinct}
-use Rattle.carried.specs.Convention.{Convention, complete, plan, write, read}
+use Rattle.carried.specs.Convention.{Convention, complete, scan, write, read}
 
 -- Each byte of an argument after promotion has its entry among the argument's carriers.
 abbrev pub Sized : List Placed → Type 0
@@ -66,7 +66,7 @@ pub record Carried (c : Convention) (sig : List ℕ) (L : List Placed) (n : ℕ)
 
 -- A list that the writer accepts: its signature places the same records, its image is accepted for it and reads as the list.
 pub record RoundTrip (c : Convention) (l : List ℕ) (L : List Placed) (last : c .State) : Type 0 where
-  pub signature : plan c false (kinds L) ≡ complete L last
+  pub signature : scan c false (kinds L) ≡ complete L last
   pub written : write c l ≡ done (image (c .imageLength last) L l)
   pub accepted : Accepted (c .imageLength last) L (image (c .imageLength last) L l)
   pub reads : read c (kinds L) (image (c .imageLength last) L l) ≡ done l

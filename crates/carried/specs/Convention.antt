@@ -29,16 +29,16 @@ pub record Convention : Type 1 where
 
 -- All records of a list or a signature: stopped by a refusal, with its number, place and argument; or complete, placed, and the
 -- last state.
-pub data Plan (State : Type 0) : Type 0 where
-  stopped : ℕ → ℕ → ℕ → Plan State
-  complete : List Placed → State → Plan State
+pub data Scan (State : Type 0) : Type 0 where
+  stopped : ℕ → ℕ → ℕ → Scan State
+  complete : List Placed → State → Scan State
 
-abbrev pub prepend : {State : Type 0} → Placed → Plan State → Plan State
+abbrev pub prepend : {State : Type 0} → Placed → Scan State → Scan State
 prepend s (stopped r at n) = stopped r at n
 prepend s (complete L st) = complete (s ∷ L) st
 
--- What comes of a plan: its refusal, or else what is made of its records and the last state. A check on the last state stands there.
-abbrev pub resolve : {State : Type 0} → Plan State → (List Placed → State → Outcome) → Outcome
+-- What comes of a scan: its refusal, or else what is made of its records and the last state. A check on the last state stands there.
+abbrev pub resolve : {State : Type 0} → Scan State → (List Placed → State → Outcome) → Outcome
 resolve (stopped r at n) then = refused r at n
 resolve (complete L st) then = then L st
 
@@ -58,24 +58,24 @@ module _ (c : Convention) where
   abbrev pub taken : Bool → ℕ → c .State → ℕ → Step (c .Placement) (c .State)
   taken bodies left st k = limited bodies left k (c .step st k)
 
-  -- The plan from a record on, by its answer: stopped at its place and as this argument, or its record and then the rest.
-  abbrev pub proceed : ℕ → ℕ → Step (c .Placement) (c .State) → (ℕ → c .State → Plan (c .State)) → Plan (c .State)
+  -- The scan from a record on, by its answer: stopped at its place and as this argument, or its record and then the rest.
+  abbrev pub proceed : ℕ → ℕ → Step (c .Placement) (c .State) → (ℕ → c .State → Scan (c .State)) → Scan (c .State)
   proceed at k (refuse r n) rest = stopped r at n
   proceed at k (next n p st) rest = prepend (c .placedAt k n p) (rest (c .placedAt k n p .size) st)
 
   -- "records are checked left to right": from the byte at this place on, with so many bytes of a body still to pass.
-  abbrev pub planFrom : Bool → ℕ → c .State → ℕ → List ℕ → Plan (c .State)
-  planFrom bodies at st n [] = complete [] st
-  planFrom bodies at st zero (k ∷ l) = proceed at k (taken bodies (length l) st k) (λ size st′. planFrom bodies (suc at) st′ (bodyLength bodies size) l)
-  planFrom bodies at st (suc n) (b ∷ l) = planFrom bodies (suc at) st n l
+  abbrev pub scanFrom : Bool → ℕ → c .State → ℕ → List ℕ → Scan (c .State)
+  scanFrom bodies at st n [] = complete [] st
+  scanFrom bodies at st zero (k ∷ l) = proceed at k (taken bodies (length l) st k) (λ size st′. scanFrom bodies (suc at) st′ (bodyLength bodies size) l)
+  scanFrom bodies at st (suc n) (b ∷ l) = scanFrom bodies (suc at) st n l
 
-  -- The plan of a list (true) or of a signature (false).
-  abbrev pub plan : Bool → List ℕ → Plan (c .State)
-  plan bodies l = planFrom bodies 0 (c .start) 0 l
+  -- The scan of a list (true) or of a signature (false).
+  abbrev pub scan : Bool → List ℕ → Scan (c .State)
+  scan bodies l = scanFrom bodies 0 (c .start) 0 l
 
   -- The writer, with a check of the room for the image: refusals 1 to 5, then 7, else the image.
-  abbrev pub writePlan : (ℕ → Outcome → Outcome) → List ℕ → Plan (c .State) → Outcome
-  writePlan room l q = resolve q (λ L st. room (length (image (c .imageLength st) L l)) (done (image (c .imageLength st) L l)))
+  abbrev pub writeScan : (ℕ → Outcome → Outcome) → List ℕ → Scan (c .State) → Outcome
+  writeScan room l q = resolve q (λ L st. room (length (image (c .imageLength st) L l)) (done (image (c .imageLength st) L l)))
 
   -- "After the last: 6, 7, 8": an image of these records and this last state, with a check of the room for what is answered; else
   -- these bytes.
@@ -83,19 +83,19 @@ module _ (c : Convention) where
   checkImage room img L st x = cond (eqb (length img) (c .imageLength st)) (room (length x) (checked 8 0 L img (done x))) (refused 6 0 0)
 
   -- The reader, with a check of the room for the list: refusals 1, 2, 3 and 5, then those of the image, else the reading.
-  abbrev pub readPlan : (ℕ → Outcome → Outcome) → List ℕ → Plan (c .State) → Outcome
-  readPlan room img q = resolve q (λ L st. checkImage room img L st (reading L img))
+  abbrev pub readScan : (ℕ → Outcome → Outcome) → List ℕ → Scan (c .State) → Outcome
+  readScan room img q = resolve q (λ L st. checkImage room img L st (reading L img))
 
   -- Both where there is room for anything,
   abbrev pub write : List ℕ → Outcome
-  write l = writePlan (λ n x. x) l (plan true l)
+  write l = writeScan (λ n x. x) l (scan true l)
 
   abbrev pub read : List ℕ → List ℕ → Outcome
-  read sig img = readPlan (λ n x. x) img (plan false sig)
+  read sig img = readScan (λ n x. x) img (scan false sig)
 
   -- and with a lent buffer of so many bytes.
   abbrev pub writeInto : List ℕ → ℕ → Outcome
-  writeInto l room = writePlan (checkRoom 7 room) l (plan true l)
+  writeInto l room = writeScan (checkRoom 7 room) l (scan true l)
 
   abbrev pub readInto : List ℕ → List ℕ → ℕ → Outcome
-  readInto sig img room = readPlan (checkRoom 7 room) img (plan false sig)
+  readInto sig img room = readScan (checkRoom 7 room) img (scan false sig)

@@ -12,7 +12,7 @@ use Rattle.device.specs.declared.Device.the-variants.{Fpu, NoFpu}
 use Rattle.answers.specs.Outcomes.{Outcome}
 use Rattle.answers.proofs.Cases.{came}
 use Rattle.carried.specs.Image.{Placed}
-use Rattle.carried.specs.Convention.{Plan, stopped, complete, plan, writeInto, readInto}
+use Rattle.carried.specs.Convention.{Scan, stopped, complete, scan, writeInto, readInto}
 use Rattle.o32.specs.declared.State.{State}
 use Rattle.o32.specs.O32.{O32}
 
@@ -181,9 +181,9 @@ pub numbers : T (all numberTable)
 numbers = tt
 
 -- The numbers of the records that are taken, of which no answer speaks.
-abbrev pub reports : Plan State → List ℕ → Bool
+abbrev pub reports : Scan State → List ℕ → Bool
 reports (stopped r at k) ns = false
 reports (complete L st) ns = same (map (λ (s : Placed). s .argument) L) ns
 
-pub taken-numbers : T (reports (plan (O32 Fpu) false (0x0B ∷ 0x05 ∷ 0x0A ∷ 0x05 ∷ [])) (1 ∷ 2 ∷ 0 ∷ 3 ∷ []))
+pub taken-numbers : T (reports (scan (O32 Fpu) false (0x0B ∷ 0x05 ∷ 0x0A ∷ 0x05 ∷ [])) (1 ∷ 2 ∷ 0 ∷ 3 ∷ []))
 taken-numbers = tt

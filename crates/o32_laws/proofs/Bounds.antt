@@ -1,4 +1,4 @@
--- How far a plan reaches: each record takes its bytes of the arguments' end and counts as one argument, or it is the one marker.
+-- How far a scan reaches: each record takes its bytes of the arguments' end and counts as one argument, or it is the one marker.
 -- So every refusal's place, and the length of every accepted list, is at most 1,024 + 32 + 1, and an argument's number at most 33.
 -- Assumes nothing.
 use mathlib.Core.Path.{_≡_, refl, subst}
@@ -12,10 +12,10 @@ use borrow.Author.Tests.{leb-true, leb-false}
 use Rattle.words.proofs.Impossible.{impossible}
 use Rattle.device.specs.declared.Device.{Device}
 use Rattle.carried.specs.Image.{Placed, reading}
-use Rattle.carried.specs.Convention.{Step, refuse, next, Plan, stopped, complete, prepend, bodyLength, taken, planFrom, plan}
+use Rattle.carried.specs.Convention.{Step, refuse, next, Scan, stopped, complete, prepend, bodyLength, taken, scanFrom, scan}
 use Rattle.carried.proofs.Walks.{walk-of}
-use Rattle.carried.proofs.Wholeness.{plan-reading}
-use Rattle.carried.proofs.Plans.{by-step, by-limits, stops, Stops, by-records}
+use Rattle.carried.proofs.Wholeness.{scan-reading}
+use Rattle.carried.proofs.Scans.{by-step, by-limits, stops, Stops, by-records}
 use Rattle.kinds.specs.declared.Class.the-variants.{Unknown, Marker}
 use Rattle.kinds.specs.declared.Kind.{Kind}
 use Rattle.o32.specs.declared.State.{State}
@@ -123,7 +123,7 @@ pub record Reached (n : ℕ) (L : List Placed) (last : State) : Type 0 where
   pub fits : last .end ≤ 1024
 
 -- the place and the argument of a refusal, or the bytes of what is accepted
-abbrev Reaches : ℕ → Plan State → Type 0
+abbrev Reaches : ℕ → Scan State → Type 0
 Reaches n (stopped r p j) = (p ≤ 1057) × (j ≤ 33)
 Reaches n (complete L last) = Reached n L last
 
@@ -138,11 +138,11 @@ after-le : (bodies : Bool) (n : ℕ) → bodyLength bodies n ≤ n
 after-le true n = omega arith
 after-le false n = omega arith
 
-prepend-reaches : (n m : ℕ) (s : Placed) (q : Plan State) → n ≡ m → s .argument ≤ 33 → Reaches n q → Reaches m (prepend s q)
+prepend-reaches : (n m : ℕ) (s : Placed) (q : Scan State) → n ≡ m → s .argument ≤ 33 → Reaches n q → Reaches m (prepend s q)
 prepend-reaches n m s (stopped r p j) e a h = h
 prepend-reaches n m s (complete L last) e a h = record { long = omega (arith, h .long); numbers = (a, h .numbers); fits = h .fits }
 
-reaches : (d : Device) (bodies : Bool) (l : List ℕ) (at n : ℕ) (st : State) → Held at n st → Reaches (at + length l) (planFrom (O32 d) bodies at st n l)
+reaches : (d : Device) (bodies : Bool) (l : List ℕ) (at n : ℕ) (st : State) → Held at n st → Reaches (at + length l) (scanFrom (O32 d) bodies at st n l)
 reaches d bodies = by-records (O32 d) bodies (λ at n st l q. Held at n st → Reaches (at + length l) q)
     (λ at n st h. record { long = omega (arith, held-place at n st h); numbers = tt; fits = h .fits }) pass stop join
   where
@@ -150,14 +150,14 @@ reaches d bodies = by-records (O32 d) bodies (λ at n st l q. Held at n st → R
     named st k r j (by-step e) = step-grows d st k e
     named st k r j (by-limits p st′ e) = step-grows d st k e .number
 
-    pass : (b at n : ℕ) (st : State) (l : List ℕ) (q : Plan State) → (Held (suc at) n st → Reaches (suc at + length l) q) → Held at (suc n) st → Reaches (at + length (b ∷ l)) q
+    pass : (b at n : ℕ) (st : State) (l : List ℕ) (q : Scan State) → (Held (suc at) n st → Reaches (suc at + length l) q) → Held at (suc n) st → Reaches (at + length (b ∷ l)) q
     pass b at n st l q w h = subst (λ (m : ℕ). Reaches m q) (omega arith) (w (record { before = omega (arith, h .before); fits = h .fits; few = h .few }))
 
     stop : (at : ℕ) (st : State) (k : ℕ) (l : List ℕ) (r j : ℕ) → taken (O32 d) bodies (length l) st k ≡ refuse r j → Held at 0 st → Reaches (at + length (k ∷ l)) (stopped r at j)
     stop at st k l r j e h = (omega (arith, held-place at 0 st h), omega (arith, named st k r j (stops (O32 d) bodies (length l) st k r j e), h .few))
 
     join : (at : ℕ) (st : State) (k : ℕ) (l : List ℕ) (j : ℕ) (p : Placement) (st′ : State) → O32 d .step st k ≡ next j p st′ → leb (st′ .end) 1024 ≡ true
-        → bodyLength bodies (p .kind .size) ≤ length l → (q : Plan State) → (Held (suc at) (bodyLength bodies (p .kind .size)) st′ → Reaches (suc at + length l) q)
+        → bodyLength bodies (p .kind .size) ≤ length l → (q : Scan State) → (Held (suc at) (bodyLength bodies (p .kind .size)) st′ → Reaches (suc at + length l) q)
         → Held at 0 st → Reaches (at + length (k ∷ l)) (prepend (O32 d .placedAt k j p) q)
     join at st k l j p st′ e f i q w h =
         let g : Grown st (kindOf k) j p st′ = step-grows d st k e in
@@ -167,18 +167,18 @@ reaches d bodies = by-records (O32 d) bodies (λ at n st l q. Held at n st → R
 -- ---- a whole list or signature
 
 module _ (d : Device) (bodies : Bool) (l : List ℕ) where
-  planned : Reaches (0 + length l) (plan (O32 d) bodies l)
-  planned = reaches d bodies l 0 0 start held-starts
+  scanned : Reaches (0 + length l) (scan (O32 d) bodies l)
+  scanned = reaches d bodies l 0 0 start held-starts
 
-  pub refusal-bound : (r p j : ℕ) → plan (O32 d) bodies l ≡ stopped r p j → (p ≤ 1057) × (j ≤ 33)
-  refusal-bound r p j e = subst (Reaches (0 + length l)) e planned
+  pub refusal-bound : (r p j : ℕ) → scan (O32 d) bodies l ≡ stopped r p j → (p ≤ 1057) × (j ≤ 33)
+  refusal-bound r p j e = subst (Reaches (0 + length l)) e scanned
 
-  pub plan-bound : (L : List Placed) (last : State) → plan (O32 d) bodies l ≡ complete L last → Reached (length l) L last
-  plan-bound L last e =
-      let w : Reached (0 + length l) L last = subst (Reaches (0 + length l)) e planned in
+  pub scan-bound : (L : List Placed) (last : State) → scan (O32 d) bodies l ≡ complete L last → Reached (length l) L last
+  scan-bound L last e =
+      let w : Reached (0 + length l) L last = subst (Reaches (0 + length l)) e scanned in
       record { long = omega (arith, w .long); numbers = w .numbers; fits = w .fits }
 
 -- a reading is an accepted list
-pub reading-long : (d : Device) (sig img : List ℕ) (L : List Placed) (last : State) → plan (O32 d) false sig ≡ complete L last → length (reading L img) ≤ 1057
+pub reading-long : (d : Device) (sig img : List ℕ) (L : List Placed) (last : State) → scan (O32 d) false sig ≡ complete L last → length (reading L img) ≤ 1057
 reading-long d sig img L last e =
-    plan-bound d true (reading L img) L last (plan-reading (O32 d) (O32-laws d) (walk-of (O32 d) (O32-laws d) sig start L last 0 e) img 0) .long
+    scan-bound d true (reading L img) L last (scan-reading (O32 d) (O32-laws d) (walk-of (O32 d) (O32-laws d) sig start L last 0 e) img 0) .long

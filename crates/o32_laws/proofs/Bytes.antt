@@ -9,7 +9,7 @@ use native.Mathlib.Omega.{arith}
 use lib.ListN.{length, getD}
 use Rattle.device.specs.declared.Device.{Device}
 use Rattle.carried.specs.Image.{Placed, carried}
-use Rattle.carried.specs.Convention.{complete, plan}
+use Rattle.carried.specs.Convention.{complete, scan}
 use Rattle.places.specs.Places.{In}
 use Rattle.carried.specs.Carried.{kinds, Carried}
 use Rattle.carried.proofs.Carriers.{Among, Carrier, carrier-of, carrier-in, SameByte, carriers-same, kinds-append, length-kinds, OfKind, of-kind}
@@ -22,7 +22,7 @@ use Rattle.o32_laws.specs.Carrying.{registerAfter, CarriedAt, KindIn, Ar
 use Rattle.o32_laws.proofs.Laws.{O32-carried}
 use Rattle.o32_laws.proofs.Carrying.{reach, placed-after, carried-at}
 
-module _ (d : Device) (sig : List ℕ) (L : List Placed) (last : State) (ok : plan (O32 d) false sig ≡ complete L last) where
+module _ (d : Device) (sig : List ℕ) (L : List Placed) (last : State) (ok : scan (O32 d) false sig ≡ complete L last) where
   carried-bytes : Carried (O32 d) sig L (32 + area (last .end))
   carried-bytes = O32-carried d sig L last ok
 
@@ -42,7 +42,7 @@ module _ (d : Device) (sig : List ℕ) (L : List Placed) (last : State) (ok : pl
   of a =
       let w : OfKind L (a .before) (a .kind) (a .after) = of-kind L (a .before) (a .kind) (a .after) (carried-bytes .signature ∙ sym (a .here)) in
       let n : length (w .among .before) ≡ length (a .before) = sym (length-kinds (w .among .before)) ∙ ap length (w .kinds-before) in
-      let ok′ : plan (O32 d) false (a .before ++ (a .kind ∷ a .after)) ≡ complete L last = ap (plan (O32 d) false) (a .here) ∙ ok in
+      let ok′ : scan (O32 d) false (a .before ++ (a .kind ∷ a .after)) ≡ complete L last = ap (scan (O32 d) false) (a .here) ∙ ok in
       record {
         among = w .among;
         kinds-before = w .kinds-before;
@@ -62,12 +62,12 @@ module _ (d : Device) (sig : List ℕ) (L : List Placed) (last : State) (ok : pl
 
   pub in-carriers : (w : Among L) → w .here ≡ recordOf (argument-of w)
   in-carriers w =
-      placed-after d (kinds (w .before)) (w .here .kind) (kinds (w .after)) L last (ap (plan (O32 d) false) (argument-of w .here) ∙ ok) (w .before) (w .here) (w .after) (w .records)
+      placed-after d (kinds (w .before)) (w .here .kind) (kinds (w .after)) L last (ap (scan (O32 d) false) (argument-of w .here) ∙ ok) (w .before) (w .here) (w .after) (w .records)
       (sym (length-kinds (w .before)))
 
   among-as : (w : Among L) → CarriedAt d (kinds (w .before)) (w .here .kind) (w .here)
   among-as w =
-      carried-at d (kinds (w .before)) (w .here .kind) (kinds (w .after)) L last (ap (plan (O32 d) false) (argument-of w .here) ∙ ok) (w .before) (w .here) (w .after) (w .records)
+      carried-at d (kinds (w .before)) (w .here .kind) (kinds (w .after)) L last (ap (scan (O32 d) false) (argument-of w .here) ∙ ok) (w .before) (w .here) (w .after) (w .records)
       (sym (length-kinds (w .before)))
 
   -- the record that carries an argument's byte

@@ -14,7 +14,7 @@ use borrow.Author.Tests.{lt-ltb, le-ltb, ltb-true, ltb-false, ne-eqb}
 use Rattle.device.specs.declared.Device.{Device}
 use Rattle.device.specs.declared.Device.the-variants.{Fpu, NoFpu}
 use Rattle.carried.specs.Image.{Placed}
-use Rattle.carried.specs.Convention.{complete, plan}
+use Rattle.carried.specs.Convention.{complete, scan}
 use Rattle.carried.proofs.Walks.{Walk, end, one, walk-of}
 use Rattle.kinds.specs.declared.Class.the-variants.{Marker, Float}
 use Rattle.kinds.specs.declared.Kind.{Kind}
@@ -272,7 +272,7 @@ module _ (d : Device) (before : List ℕ) (k j : ℕ) (s : Placed)
   }
 
 -- At every accepted signature, the record of every kind byte is placed by the kinds before,
-pub placed-after : (d : Device) (before : List ℕ) (k : ℕ) (after : List ℕ) (L : List Placed) (last : State) → plan (O32 d) false (before ++ (k ∷ after)) ≡ complete L last
+pub placed-after : (d : Device) (before : List ℕ) (k : ℕ) (after : List ℕ) (L : List Placed) (last : State) → scan (O32 d) false (before ++ (k ∷ after)) ≡ complete L last
     → (M : List Placed) (s : Placed) (N : List Placed) → L ≡ M ++ (s ∷ N) → length M ≡ length before
     → s ≡ O32 d .placedAt k (argument (reach start before .prefix) (kindOf k)) (record { kind = kindOf k; offset = offset (kindOf k) (endOf 0 before); register = registerAfter d before k })
 placed-after d before k after L last ok M s N e h =
@@ -281,12 +281,12 @@ placed-after d before k after L last ok M s N e h =
     ∙ rw (reach-end before start, register-by-kinds d before k after L last w)
 
 -- and is carried as `CarriedAt` says.
-pub carried-at : (d : Device) (before : List ℕ) (k : ℕ) (after : List ℕ) (L : List Placed) (last : State) → plan (O32 d) false (before ++ (k ∷ after)) ≡ complete L last
+pub carried-at : (d : Device) (before : List ℕ) (k : ℕ) (after : List ℕ) (L : List Placed) (last : State) → scan (O32 d) false (before ++ (k ∷ after)) ≡ complete L last
     → (M : List Placed) (s : Placed) (N : List Placed) → L ≡ M ++ (s ∷ N) → length M ≡ length before → CarriedAt d before k s
 carried-at d before k after L last ok M s N e h = law d before k _ s (placed-after d before k after L last ok M s N e h)
 
 -- Request (iii) of document 02: at every accepted signature, on every device, a structure lies in the runs of `InRuns`.
-pub structure-in-runs : (d : Device) (before : List ℕ) (k : ℕ) (after : List ℕ) (L : List Placed) (last : State) → plan (O32 d) false (before ++ (k ∷ after)) ≡ complete L last
+pub structure-in-runs : (d : Device) (before : List ℕ) (k : ℕ) (after : List ℕ) (L : List Placed) (last : State) → scan (O32 d) false (before ++ (k ∷ after)) ≡ complete L last
     → (M : List Placed) (s : Placed) (N : List Placed) → L ≡ M ++ (s ∷ N) → length M ≡ length before → InRuns before k s
 structure-in-runs d before k after L last ok M s N e h = record {
   below = λ g o n x y l. cs g o n x y ∙ span-below n o l;

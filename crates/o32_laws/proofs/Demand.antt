@@ -14,7 +14,7 @@ use Rattle.device.specs.declared.Device.{Device}
 use Rattle.answers.specs.Outcomes.{done}
 use Rattle.carried.specs.Image.{reading, Placed, image, listLength}
 use Rattle.places.specs.Places.{gather}
-use Rattle.carried.specs.Convention.{complete, plan, read, writeInto}
+use Rattle.carried.specs.Convention.{complete, scan, read, writeInto}
 use Rattle.carried.specs.Carried.{Sized, AllProper, Carried, RoundTrip}
 use Rattle.carried.specs.Carried as D
 use Rattle.carried.proofs.Readings.{done-inj, reading-length, length-body, fits-carriers, promotion-of}
@@ -23,16 +23,16 @@ use Rattle.kinds.specs.Kinds.{kindOf}
 use Rattle.o32_offsets.specs.Offsets.{extension}
 use Rattle.o32.specs.O32.{O32, area}
 use Rattle.carried.specs.Calls.{functionsOf, output, PastSignature, AcceptedSignature, LentBuffers, Accepts, readingOf}
-use Rattle.carried.proofs.Calls.{Early, Planned, planned-of, accepted-of, reads, is-read, reading-answered, accepted-images, images-as, accepts-exactly}
+use Rattle.carried.proofs.Calls.{Early, Scanned, scanned-of, accepted-of, reads, is-read, reading-answered, accepted-images, images-as, accepts-exactly}
 use Rattle.carried.proofs.Buffers.{output-done}
 use Rattle.o32_laws.specs.Carrying.{KindIn, ArgumentByte, CarriedBy, imageBytes, listBytes}
 use Rattle.o32_laws.specs.Refusing.{Accepted, Improper}
 use Rattle.o32_laws.specs.Demand.{recordAt, bodyIn, Buffers, CarriedBytes, Demand}
 use Rattle.o32_laws.proofs.Laws.{O32-laws, O32-carried, O32-round-trip}
-use Rattle.o32_laws.proofs.Bounds.{plan-bound, reading-long}
+use Rattle.o32_laws.proofs.Bounds.{scan-bound, reading-long}
 use Rattle.o32_laws.proofs.Bytes.{Of, of, carried-exactly, one-byte, none-shared, bytes-inside}
 use Rattle.o32_laws.proofs.Nothing.{each-byte}
-use Rattle.o32_laws.proofs.Refusing.{by-record, refused-exactly, PlannedAs, accepted-planned}
+use Rattle.o32_laws.proofs.Refusing.{by-record, refused-exactly, ScannedAs, accepted-scanned}
 use Rattle.o32_laws.proofs.Refusals.{part-long, list-long, image-long}
 use Rattle.o32_laws.proofs.Improper.{proper-at, proper-exactly}
 
@@ -83,18 +83,18 @@ module _ (d : Device) where
 
   -- ---- at one accepted signature
 
-  module _ (sig : List ℕ) (s : Planned (O32 d) (O32-laws d) early sig) where
+  module _ (sig : List ℕ) (s : Scanned (O32 d) (O32-laws d) early sig) where
     abbrev L : List Placed
     L = s .placed
 
     the-theorem : Carried (O32 d) sig L (32 + area (s .last .end))
-    the-theorem = O32-carried d sig L (s .last) (s .planned)
+    the-theorem = O32-carried d sig L (s .last) (s .scanned)
 
     long : listLength L ≡ listBytes sig
-    long = list-long d sig L (s .last) (s .planned)
+    long = list-long d sig L (s .last) (s .scanned)
 
     whole : 32 + area (s .last .end) ≡ imageBytes sig
-    whole = image-long d sig L (s .last) (s .planned)
+    whole = image-long d sig L (s .last) (s .scanned)
 
     -- the buffers, in the words of the theorem
     lent : Buffers sig → LentBuffers (listLength L) (32 + area (s .last .end))
@@ -114,8 +114,8 @@ module _ (d : Device) where
 
       -- the record of an argument stands after those before it
       module _ (b : KindIn sig) where
-        w : Of d sig L (s .last) (s .planned) b
-        w = of d sig L (s .last) (s .planned) b
+        w : Of d sig L (s .last) (s .scanned) b
+        w = of d sig L (s .last) (s .scanned) b
 
         abbrev here : Placed
         here = w .among .here
@@ -129,7 +129,7 @@ module _ (d : Device) where
         before-long : length (reading (w .among .before) a) ≡ recordAt b
         before-long =
             reading-length (w .among .before) a (sized-left (w .among .before) (here ∷ w .among .after) sized)
-            ∙ part-long d sig L (s .last) (s .planned) (w .among .before) (here ∷ w .among .after) (w .among .records)
+            ∙ part-long d sig L (s .last) (s .scanned) (w .among .before) (here ∷ w .among .after) (w .among .records)
             ∙ ap listBytes (w .kinds-before)
 
         standing : Standing x (recordAt b) (b .kind) (kindOf (b .kind) .size) (body (here .size) (gather a (here .carriers)))
@@ -163,36 +163,36 @@ module _ (d : Device) where
     accepted-by : (u : Buffers sig) (a : List ℕ) → Accepts (functionsOf (O32 d)) sig u a ↔ ((length a ≡ imageBytes sig) × ((b : KindIn sig) → Improper b a → ⊥))
     unfolding lent
     accepted-by u a = (
-      (λ h. let v = is-accepted u a h in (v .whole ∙ whole, proper-exactly d sig L (s .last) (s .planned) a .0 (v .promoted))),
+      (λ h. let v = is-accepted u a h in (v .whole ∙ whole, proper-exactly d sig L (s .last) (s .scanned) a .0 (v .promoted))),
       λ h. accepts-exactly (O32 d) (O32-laws d) early sig s (lent u) a .1
-          (record { whole = h .0 ∙ sym whole; promoted = proper-exactly d sig L (s .last) (s .planned) a .1 (h .1) }),
+          (record { whole = h .0 ∙ sym whole; promoted = proper-exactly d sig L (s .last) (s .scanned) a .1 (h .1) }),
     )
 
     carried-bytes : CarriedBytes (functionsOf (O32 d)) d sig
     carried-bytes = record {
-      one-carrier = one-byte d sig L (s .last) (s .planned);
-      none-shared = none-shared d sig L (s .last) (s .planned);
-      inside = λ p h. omega (arith, whole, bytes-inside d sig L (s .last) (s .planned) p h);
-      each-byte = each-byte d sig L (s .last) (s .planned);
+      one-carrier = one-byte d sig L (s .last) (s .scanned);
+      none-shared = none-shared d sig L (s .last) (s .scanned);
+      inside = λ p h. omega (arith, whole, bytes-inside d sig L (s .last) (s .scanned) p h);
+      each-byte = each-byte d sig L (s .last) (s .scanned);
       lengths = (
-        omega (arith, long, reading-length L [] (the-theorem .one-each .sized), reading-long d sig [] L (s .last) (s .planned)),
+        omega (arith, long, reading-length L [] (the-theorem .one-each .sized), reading-long d sig [] L (s .last) (s .scanned)),
         omega arith,
-        omega (arith, whole, plan-bound d false sig L (s .last) (s .planned) .fits),
+        omega (arith, whole, scan-bound d false sig L (s .last) (s .scanned) .fits),
       );
       accepted-exactly = accepted-by;
       reading-length = λ u a h. (length-answered u a h, ap length (is-reading u a h) ∙ reading-length L a (the-theorem .one-each .sized) ∙ long);
       reading-kinds = λ u a h b. standing u a h b .kind;
       reading-bodies = body-byte;
-      images = images-as long whole (carried-exactly d sig L (s .last) (s .planned)) (accepted-images (O32 d) (O32-laws d) early sig s);
+      images = images-as long whole (carried-exactly d sig L (s .last) (s .scanned)) (accepted-images (O32 d) (O32-laws d) early sig s);
     }
 
   -- ---- at all
 
   one-answer-decides : (sig img out : List ℕ) → PastSignature (functionsOf (O32 d) .read sig img out .refusal) → AcceptedSignature (functionsOf (O32 d)) sig
-  one-answer-decides sig img out h = accepted-of (O32 d) (O32-laws d) early sig (planned-of (O32 d) (O32-laws d) early sig img out h)
+  one-answer-decides sig img out h = accepted-of (O32 d) (O32-laws d) early sig (scanned-of (O32 d) (O32-laws d) early sig img out h)
 
   -- a list that the writer accepts, and its image
-  given : (list out : List ℕ) (L : List Placed) (last : State) → plan (O32 d) true list ≡ complete L last → functionsOf (O32 d) .write list out .refusal ≡ 0
+  given : (list out : List ℕ) (L : List Placed) (last : State) → scan (O32 d) true list ≡ complete L last → functionsOf (O32 d) .write list out .refusal ≡ 0
       → output (functionsOf (O32 d) .write list out) ≡ image (32 + area (last .end)) L list
   given list out L last e h = go (ltb (length out) (length (image (32 + area (last .end)) L list))) refl
     where
@@ -206,11 +206,11 @@ module _ (d : Device) where
       × (readingOf (functionsOf (O32 d)) ks u (output (functionsOf (O32 d) .write list out)) ≡ list))
   unfolding lent
   round-trip list ks out v h =
-      let a : PlannedAs d true list ks = accepted-planned d true list ks v in
-      let t : RoundTrip (O32 d) list (a .placed) (a .last) = O32-round-trip d list (a .placed) (a .last) (a .planned) in
-      let s : Planned (O32 d) (O32-laws d) early ks = record { placed = a .placed; last = a .last; planned = ap (plan (O32 d) false) (sym (a .kinds-are)) ∙ t .signature } in
+      let a : ScannedAs d true list ks = accepted-scanned d true list ks v in
+      let t : RoundTrip (O32 d) list (a .placed) (a .last) = O32-round-trip d list (a .placed) (a .last) (a .scanned) in
+      let s : Scanned (O32 d) (O32-laws d) early ks = record { placed = a .placed; last = a .last; scanned = ap (scan (O32 d) false) (sym (a .kinds-are)) ∙ t .signature } in
       let r : read (O32 d) ks (output (functionsOf (O32 d) .write list out)) ≡ done list =
-      ap₂ (read (O32 d)) (sym (a .kinds-are)) (given list out (a .placed) (a .last) (a .planned) h) ∙ t .reads in (
+      ap₂ (read (O32 d)) (sym (a .kinds-are)) (given list out (a .placed) (a .last) (a .scanned) h) ∙ t .reads in (
         accepted-of (O32 d) (O32-laws d) early ks s,
         λ u. is-read (O32 d) (O32-laws d) early ks s (lent ks s u) (output (functionsOf (O32 d) .write list out)) list r,
       )
@@ -219,7 +219,7 @@ module _ (d : Device) where
   -- since an image of no bytes is refused 6
   pub demand : Demand (functionsOf (O32 d)) d
   demand = record {
-    carried-bytes = λ sig h. carried-bytes sig (planned-of (O32 d) (O32-laws d) early sig [] [] (h [] []));
+    carried-bytes = λ sig h. carried-bytes sig (scanned-of (O32 d) (O32-laws d) early sig [] [] (h [] []));
     one-answer-decides = one-answer-decides;
     round-trip = round-trip;
     longest-list = (replicate 32 0x5F ++ (0x0A ∷ []), one-answer-decides (replicate 32 0x5F ++ (0x0A ∷ [])) [] [] (inr (inl refl)), refl);

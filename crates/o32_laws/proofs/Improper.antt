@@ -13,7 +13,7 @@ use Rattle.words.proofs.Bytes.{proper-whole}
 use Rattle.device.specs.declared.Device.{Device}
 use Rattle.places.specs.Places.{gather, run}
 use Rattle.carried.specs.Image.{Placed}
-use Rattle.carried.specs.Convention.{complete, plan}
+use Rattle.carried.specs.Convention.{complete, scan}
 use Rattle.carried.specs.Carried.{kinds, AllProper}
 use Rattle.places.proofs.Places.{length-gather}
 use Rattle.carried.proofs.Readings.{isProper}
@@ -68,7 +68,7 @@ unextended k e = go (is Signed k) (is Unsigned k) refl refl e
     go false true f g h = cc
     go true b f g h = cc
 
-module _ (d : Device) (sig : List ℕ) (L : List Placed) (last : State) (ok : plan (O32 d) false sig ≡ complete L last) (img : List ℕ) where
+module _ (d : Device) (sig : List ℕ) (L : List Placed) (last : State) (ok : scan (O32 d) false sig ≡ complete L last) (img : List ℕ) where
   abbrev word : KindIn sig → List ℕ
   word a = map carrier (run (offset (kindOf (a .kind)) (endOf 0 (a .before))) 4)
 

@@ -14,7 +14,7 @@ use Rattle.words.specs.Words.{up, Extension, zeros, toWord, promote}
 use Rattle.device.specs.declared.Device.{Device}
 use Rattle.device.specs.declared.Device.the-variants.{Fpu, NoFpu}
 use Rattle.carried.specs.Image.{Placed}
-use Rattle.carried.specs.Convention.{Step, refuse, next, complete, plan}
+use Rattle.carried.specs.Convention.{Step, refuse, next, complete, scan}
 use Rattle.places.specs.Places.{In, Distinct, run}
 use Rattle.carried.specs.Carried.{Carried, RoundTrip}
 use Rattle.places.proofs.Places.{in-cases, distinct-append}
@@ -255,9 +255,9 @@ module _ (d : Device) where
   }
 
   -- The carried-bytes theorem of O32, on every device, at every accepted signature.
-  pub O32-carried : (sig : List ℕ) (L : List Placed) (last : State) → plan (O32 d) false sig ≡ complete L last → Carried (O32 d) sig L (32 + area (last .end))
+  pub O32-carried : (sig : List ℕ) (L : List Placed) (last : State) → scan (O32 d) false sig ≡ complete L last → Carried (O32 d) sig L (32 + area (last .end))
   O32-carried sig L last ok = theorem (O32 d) O32-laws sig L last ok
 
   -- And reading what its writer wrote gives the list back, for every accepted list.
-  pub O32-round-trip : (l : List ℕ) (L : List Placed) (last : State) → plan (O32 d) true l ≡ complete L last → RoundTrip (O32 d) l L last
+  pub O32-round-trip : (l : List ℕ) (L : List Placed) (last : State) → scan (O32 d) true l ≡ complete L last → RoundTrip (O32 d) l L last
   O32-round-trip l L last ok = round-trip (O32 d) O32-laws l L last ok

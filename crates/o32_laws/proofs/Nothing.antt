@@ -15,7 +15,7 @@ use Rattle.device.specs.declared.Device.{Device}
 use Rattle.device.specs.declared.Device.the-variants.{Fpu, NoFpu}
 use Rattle.carried.specs.Image.{Placed, carried}
 use Rattle.places.specs.Places.{In}
-use Rattle.carried.specs.Convention.{complete, plan}
+use Rattle.carried.specs.Convention.{complete, scan}
 use Rattle.places.proofs.Places.{in-or-not}
 use Rattle.carried.proofs.Splits.{Later, later, Same, same}
 use Rattle.carried.proofs.Walks.{Walk, end, one, walk-of}
@@ -323,7 +323,7 @@ module _ (d : Device) (sig : List ℕ) where
         go false false false e f g = at-an-offset p (p - 32) (high-offset (ltb-false p 48 g))
 
 -- at every accepted signature, on every device
-pub each-byte : (d : Device) (sig : List ℕ) (L : List Placed) (last : State) → plan (O32 d) false sig ≡ complete L last → EachByte d sig
+pub each-byte : (d : Device) (sig : List ℕ) (L : List Placed) (last : State) → scan (O32 d) false sig ≡ complete L last → EachByte d sig
 each-byte d sig L last ok =
     let known : Known sig = walk-known d (walk-of (O32 d) (O32-laws d) sig start L last 0 ok) in
     record { either = λ p h. either d sig known p (decided p (in-or-not p (carried L))); never-both = never-both d sig known }

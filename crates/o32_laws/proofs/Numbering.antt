@@ -8,7 +8,7 @@ use native.Mathlib.Omega.{arith}
 use lib.ListN.{length}
 use Rattle.device.specs.declared.Device.{Device}
 use Rattle.carried.specs.Image.{Placed}
-use Rattle.carried.specs.Convention.{complete, plan}
+use Rattle.carried.specs.Convention.{complete, scan}
 use Rattle.carried.proofs.Walks.{Walk, end, one}
 use Rattle.kinds.specs.declared.Class.the-variants.{Marker}
 use Rattle.kinds.specs.declared.Kind.{Kind}
@@ -42,7 +42,7 @@ number-after before k =
 
 module _ (d : Device) where
   -- Of every record of every accepted signature the step reports the number that the kinds before give it.
-  pub placed-names : (before : List ℕ) (k : ℕ) (after : List ℕ) (L : List Placed) (last : State) → plan (O32 d) false (before ++ (k ∷ after)) ≡ complete L last
+  pub placed-names : (before : List ℕ) (k : ℕ) (after : List ℕ) (L : List Placed) (last : State) → scan (O32 d) false (before ++ (k ∷ after)) ≡ complete L last
       → (M : List Placed) (s : Placed) (N : List Placed) → L ≡ M ++ (s ∷ N) → length M ≡ length before → s .argument ≡ argumentAfter before k
   placed-names before k after L last ok M s N e h =
       ap (λ (x : Placed). x .argument) (placed-after d before k after L last ok M s N e h) ∙ number-after before k

@@ -11,7 +11,7 @@ use lib.Seq.{drop-at}
 use Rattle.device.specs.declared.Device.{Device}
 use Rattle.answers.specs.Outcomes.{Outcome, done, refused, answerOf, bufferOf}
 use Rattle.carried.specs.Image.{Placed, listLength}
-use Rattle.carried.specs.Convention.{complete, plan, writeInto, readInto}
+use Rattle.carried.specs.Convention.{complete, scan, writeInto, readInto}
 use Rattle.carried.specs.Carried.{kinds}
 use Rattle.carried.proofs.Walks.{Walk, walk-of, walk-by-kinds}
 use Rattle.o32.specs.declared.State.{State}
@@ -23,7 +23,7 @@ use Rattle.o32_laws.specs.Carrying.{imageBytes, listBytes}
 use Rattle.o32_laws.specs.Refusing as R
 use Rattle.o32_laws.specs.Refusing.{Accepted, WriterRefuses, ImageRefuses, ReaderRefuses, KeepsBuffer, Refusals}
 use Rattle.o32_laws.proofs.Laws.{O32-laws, O32-carried}
-use Rattle.o32_laws.proofs.Refusing.{by-record, end-is, Bodied, bodied-left, bodied-list, walk-bodied, planned-accepted, PlannedAs, accepted-planned, refused-exactly, accepted-exactly}
+use Rattle.o32_laws.proofs.Refusing.{by-record, end-is, Bodied, bodied-left, bodied-list, walk-bodied, scanned-accepted, ScannedAs, accepted-scanned, refused-exactly, accepted-exactly}
 use Rattle.o32_laws.proofs.Improper.{improper-exactly}
 
 -- ---- what a call leaves in its buffer
@@ -39,17 +39,17 @@ module _ (d : Device) where
   walk-image w = ap (λ (e : ℕ). 32 + area e) (end-is d w)
 
   -- of a signature, and of a part of it
-  pub part-long : (sig : List ℕ) (L : List Placed) (last : State) → plan (O32 d) false sig ≡ complete L last → (M N : List Placed) → L ≡ M ++ N → listLength M ≡ listBytes (kinds M)
+  pub part-long : (sig : List ℕ) (L : List Placed) (last : State) → scan (O32 d) false sig ≡ complete L last → (M N : List Placed) → L ≡ M ++ N → listLength M ≡ listBytes (kinds M)
   part-long sig L last ok M N e = bodied-list M (bodied-left M N (subst Bodied e (walk-bodied d (walk-of (O32 d) (O32-laws d) sig start L last 0 ok))))
 
-  pub list-long : (sig : List ℕ) (L : List Placed) (last : State) → plan (O32 d) false sig ≡ complete L last → listLength L ≡ listBytes sig
+  pub list-long : (sig : List ℕ) (L : List Placed) (last : State) → scan (O32 d) false sig ≡ complete L last → listLength L ≡ listBytes sig
   list-long sig L last ok = part-long sig L last ok L [] (sym (append-nil L)) ∙ ap listBytes (O32-carried d sig L last ok .signature)
 
-  pub image-long : (sig : List ℕ) (L : List Placed) (last : State) → plan (O32 d) false sig ≡ complete L last → 32 + area (last .end) ≡ imageBytes sig
+  pub image-long : (sig : List ℕ) (L : List Placed) (last : State) → scan (O32 d) false sig ≡ complete L last → 32 + area (last .end) ≡ imageBytes sig
   image-long sig L last ok = walk-image (walk-of (O32 d) (O32-laws d) sig start L last 0 ok)
 
-  pub signature-accepted : (sig : List ℕ) (L : List Placed) (last : State) → plan (O32 d) false sig ≡ complete L last → Accepted false sig sig
-  signature-accepted sig L last ok = subst (Accepted false sig) (O32-carried d sig L last ok .signature) (planned-accepted d false sig L last ok)
+  pub signature-accepted : (sig : List ℕ) (L : List Placed) (last : State) → scan (O32 d) false sig ≡ complete L last → Accepted false sig sig
+  signature-accepted sig L last ok = subst (Accepted false sig) (O32-carried d sig L last ok .signature) (scanned-accepted d false sig L last ok)
 
   -- ---- the writer
 
@@ -60,18 +60,18 @@ module _ (d : Device) where
       there (A.by-record e) = R.by-record (refused-exactly d true list r place j .0 e)
       there (A.short L last e h x y z) =
           let n : 32 + area (last .end) ≡ imageBytes (kinds L) = walk-image (walk-by-kinds (O32 d) (O32-laws d) true list L last e) in
-          R.short-buffer (kinds L) (planned-accepted d true list L last e) (omega (arith, n)) x y z
+          R.short-buffer (kinds L) (scanned-accepted d true list L last e) (omega (arith, n)) x y z
 
       back : WriterRefuses list room r place j → A.WriteRefused (O32 d) list room r place j
       back (R.by-record v) = A.by-record (refused-exactly d true list r place j .1 v)
       back (R.short-buffer ks v h x y z) =
-          let a : PlannedAs d true list ks = accepted-planned d true list ks v in
-          let n : 32 + area (a .last .end) ≡ imageBytes ks = walk-image (walk-by-kinds (O32 d) (O32-laws d) true list (a .placed) (a .last) (a .planned)) ∙ ap imageBytes (a .kinds-are) in
-          A.short (a .placed) (a .last) (a .planned) (omega (arith, n)) x y z
+          let a : ScannedAs d true list ks = accepted-scanned d true list ks v in
+          let n : 32 + area (a .last .end) ≡ imageBytes ks = walk-image (walk-by-kinds (O32 d) (O32-laws d) true list (a .placed) (a .last) (a .scanned)) ∙ ap imageBytes (a .kinds-are) in
+          A.short (a .placed) (a .last) (a .scanned) (omega (arith, n)) x y z
 
   -- ---- an image, where n bytes are to be answered
 
-  pub image-refuses : (sig : List ℕ) (L : List Placed) (last : State) → plan (O32 d) false sig ≡ complete L last → (img : List ℕ) (n room r place j : ℕ)
+  pub image-refuses : (sig : List ℕ) (L : List Placed) (last : State) → scan (O32 d) false sig ≡ complete L last → (img : List ℕ) (n room r place j : ℕ)
       → ImageRefused (O32 d) L last img n room r place j ↔ ImageRefuses sig img n room r place j
   image-refuses sig L last ok img n room r place j = (there, back)
     where
@@ -94,7 +94,7 @@ module _ (d : Device) where
   reader-refuses sig img room r place j =
       ((λ e. there (read-refused (O32 d) (O32-laws d) sig img room r place j .0 e)), λ v. read-refused (O32 d) (O32-laws d) sig img room r place j .1 (back v))
     where
-      exactly : (L : List Placed) (last : State) → plan (O32 d) false sig ≡ complete L last
+      exactly : (L : List Placed) (last : State) → scan (O32 d) false sig ≡ complete L last
           → ImageRefused (O32 d) L last img (listLength L) room r place j ↔ ImageRefuses sig img (listBytes sig) room r place j
       exactly L last e = rw (← list-long sig L last e) (image-refuses sig L last e img (listLength L) room r place j)
 
@@ -105,8 +105,8 @@ module _ (d : Device) where
       back : ReaderRefuses sig img room r place j → A.ReadRefused (O32 d) sig img room r place j
       back (R.by-record v) = A.by-record (refused-exactly d false sig r place j .1 v)
       back (R.by-image v w) =
-          let a = accepted-planned d false sig sig v in
-          A.by-image (a .placed) (a .last) (a .planned) (exactly (a .placed) (a .last) (a .planned) .1 w)
+          let a = accepted-scanned d false sig sig v in
+          A.by-image (a .placed) (a .last) (a .scanned) (exactly (a .placed) (a .last) (a .scanned) .1 w)
 
   -- ---- what they answer
 

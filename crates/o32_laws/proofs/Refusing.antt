@@ -12,11 +12,11 @@ use lib.Dec.{eqb, leb, ltb}
 use borrow.Author.Tests.{eqb-true, eqb-false, ltb-true, ltb-false, leb-true, leb-false, le-leb, ne-eqb}
 use Rattle.device.specs.declared.Device.{Device}
 use Rattle.carried.specs.Image.{Placed, listLength}
-use Rattle.carried.specs.Convention.{Step, refuse, next, Plan, stopped, complete, bodyLength, limited, taken, plan}
+use Rattle.carried.specs.Convention.{Step, refuse, next, Scan, stopped, complete, bodyLength, limited, taken, scan}
 use Rattle.carried.specs.Carried.{kinds}
 use Rattle.carried.proofs.Walks.{Walk, end, one, walk-of, walk-kinds, walk-by-kinds, walk-fits, WalkTo, walk-to}
-use Rattle.carried.proofs.Wholeness.{Whole, plan-whole, whole-plan}
-use Rattle.carried.proofs.Refusals.{StopsAt, plan-stops}
+use Rattle.carried.proofs.Wholeness.{Whole, scan-whole, whole-scan}
+use Rattle.carried.proofs.Refusals.{StopsAt, scan-stops}
 use Rattle.kinds.specs.declared.Class.the-variants.{Unknown, Marker, Pointer}
 use Rattle.kinds.specs.declared.Kind.{Kind}
 use Rattle.o32.specs.declared.State.{State}
@@ -317,26 +317,26 @@ module _ (d : Device) where
       let t : taken (O32 d) false 0 (v .reached) (a .kind) ≡ next (v .number) (v .place) (v .onward) = rw (v .stepped, v .fitting) in
       subst (Judged d (v .before) (a .kind) false 0) t (judged d (v .before) (a .kind) false 0) r (omega (arith, by-record h)) h
 
-  -- what is planned is accepted
-  pub planned-accepted : (bodies : Bool) (l : List ℕ) (L : List Placed) (last : State) → plan (O32 d) bodies l ≡ complete L last → Accepted bodies l (kinds L)
-  planned-accepted bodies l L last e =
+  -- what is scanned is accepted
+  pub scanned-accepted : (bodies : Bool) (l : List ℕ) (L : List Placed) (last : State) → scan (O32 d) bodies l ≡ complete L last → Accepted bodies l (kinds L)
+  scanned-accepted bodies l L last e =
       let w : Walk (O32 d) (O32-laws d) start (kinds L) L last = walk-by-kinds (O32 d) (O32-laws d) bodies l L last e in
       record {
-        records = whole-records bodies L l (walk-bodied w) (plan-whole (O32 d) (O32-laws d) bodies l L last e);
+        records = whole-records bodies L l (walk-bodied w) (scan-whole (O32 d) (O32-laws d) bodies l L last e);
         none-refused = none-refused w;
       }
 
-  -- and what is accepted is planned
-  pub record PlannedAs (bodies : Bool) (l ks : List ℕ) : Type 0 where
+  -- and what is accepted is scanned
+  pub record ScannedAs (bodies : Bool) (l ks : List ℕ) : Type 0 where
     pub placed : List Placed
     pub last : State
-    pub planned : plan (O32 d) bodies l ≡ complete placed last
+    pub scanned : scan (O32 d) bodies l ≡ complete placed last
     pub kinds-are : kinds placed ≡ ks
 
-  signature-planned : (ks : List ℕ) → ((a : KindIn ks) (r : ℕ) → Condition false (a .before) (a .kind) 0 r → ⊥) → (q : Plan State) → plan (O32 d) false ks ≡ q → PlannedAs false ks ks
-  signature-planned ks h (complete L last) e = record { placed = L; last = last; planned = e; kinds-are = walk-kinds (O32 d) (O32-laws d) (walk-of (O32 d) (O32-laws d) ks start L last 0 e) }
-  signature-planned ks h (stopped r place j) e =
-      let s : StopsAt (O32 d) false ks r place j = plan-stops (O32 d) false ks r place j .0 e in
+  signature-scanned : (ks : List ℕ) → ((a : KindIn ks) (r : ℕ) → Condition false (a .before) (a .kind) 0 r → ⊥) → (q : Scan State) → scan (O32 d) false ks ≡ q → ScannedAs false ks ks
+  signature-scanned ks h (complete L last) e = record { placed = L; last = last; scanned = e; kinds-are = walk-kinds (O32 d) (O32-laws d) (walk-of (O32 d) (O32-laws d) ks start L last 0 e) }
+  signature-scanned ks h (stopped r place j) e =
+      let s : StopsAt (O32 d) false ks r place j = scan-stops (O32 d) false ks r place j .0 e in
       let w : Walk (O32 d) (O32-laws d) start (take place ks) (s .before) (s .last) = walk-of (O32 d) (O32-laws d) (take place ks) start (s .before) (s .last) 0 (s .accepted) in
       let v = refused-first d w (getD ks place 0) false (length ks - (place + 1)) r j .0 (s .refusal) in
       let a : KindIn ks = record {
@@ -347,54 +347,54 @@ module _ (d : Device) where
       } in
       absurd (h a r (any-left (v .0)))
 
-  pub accepted-planned : (bodies : Bool) (l ks : List ℕ) → Accepted bodies l ks → PlannedAs bodies l ks
-  accepted-planned bodies l ks a =
-      let s : PlannedAs false ks ks = signature-planned ks (a .none-refused) (plan (O32 d) false ks) refl in
-      let w : Walk (O32 d) (O32-laws d) start ks (s .placed) (s .last) = walk-of (O32 d) (O32-laws d) ks start (s .placed) (s .last) 0 (s .planned) in
+  pub accepted-scanned : (bodies : Bool) (l ks : List ℕ) → Accepted bodies l ks → ScannedAs bodies l ks
+  accepted-scanned bodies l ks a =
+      let s : ScannedAs false ks ks = signature-scanned ks (a .none-refused) (scan (O32 d) false ks) refl in
+      let w : Walk (O32 d) (O32-laws d) start ks (s .placed) (s .last) = walk-of (O32 d) (O32-laws d) ks start (s .placed) (s .last) 0 (s .scanned) in
       let v : Whole bodies (s .placed) l = records-whole bodies (s .placed) l (walk-bodied w) (subst (λ (x : List ℕ). Records bodies x l) (sym (s .kinds-are)) (a .records)) in
-      record { placed = s .placed; last = s .last; planned = whole-plan (O32 d) (O32-laws d) bodies w l 0 v; kinds-are = s .kinds-are }
+      record { placed = s .placed; last = s .last; scanned = whole-scan (O32 d) (O32-laws d) bodies w l 0 v; kinds-are = s .kinds-are }
 
 -- ---- and one that is refused
 
 module _ (d : Device) (bodies : Bool) (l : List ℕ) where
   -- Refusals 1 to 5 are given exactly on their conditions,
-  pub refused-exactly : (r place j : ℕ) → (plan (O32 d) bodies l ≡ stopped r place j) ↔ RefusedAt bodies l r place j
+  pub refused-exactly : (r place j : ℕ) → (scan (O32 d) bodies l ≡ stopped r place j) ↔ RefusedAt bodies l r place j
   refused-exactly r place j = (
     (λ e.
-        let s : StopsAt (O32 d) bodies l r place j = plan-stops (O32 d) bodies l r place j .0 e in
+        let s : StopsAt (O32 d) bodies l r place j = scan-stops (O32 d) bodies l r place j .0 e in
         let w : Walk (O32 d) (O32-laws d) start (kinds (s .before)) (s .before) (s .last) = walk-by-kinds (O32 d) (O32-laws d) bodies (take place l) (s .before) (s .last) (s .accepted) in
         let v = refused-first d w (getD l place 0) bodies (length l - (place + 1)) r j .0 (s .refusal) in
         record {
           inside = s .inside;
           before = kinds (s .before);
-          accepted = planned-accepted d bodies (take place l) (s .before) (s .last) (s .accepted);
+          accepted = scanned-accepted d bodies (take place l) (s .before) (s .last) (s .accepted);
           holds = v .0;
           first = v .1;
           number = v .2;
         }),
     λ v.
-        let a : PlannedAs d bodies (take place l) (v .before) = accepted-planned d bodies (take place l) (v .before) (v .accepted) in
+        let a : ScannedAs d bodies (take place l) (v .before) = accepted-scanned d bodies (take place l) (v .before) (v .accepted) in
         let w : Walk (O32 d) (O32-laws d) start (v .before) (a .placed) (a .last) =
         subst (λ (ks : List ℕ). Walk (O32 d) (O32-laws d) start ks (a .placed) (a .last)) (a .kinds-are)
-        (walk-by-kinds (O32 d) (O32-laws d) bodies (take place l) (a .placed) (a .last) (a .planned)) in
-        plan-stops (O32 d) bodies l r place j .1 (record {
+        (walk-by-kinds (O32 d) (O32-laws d) bodies (take place l) (a .placed) (a .last) (a .scanned)) in
+        scan-stops (O32 d) bodies l r place j .1 (record {
           inside = v .inside;
           before = a .placed;
           last = a .last;
-          accepted = a .planned;
+          accepted = a .scanned;
           refusal = refused-first d w (getD l place 0) bodies (length l - (place + 1)) r j .1 (v .holds, v .first, v .number);
         }),
   )
 
   -- and there is none exactly when all records are accepted.
   pub accepted-exactly : ((ks : List ℕ) × Accepted bodies l ks) ↔ ((r place j : ℕ) → RefusedAt bodies l r place j → ⊥)
-  accepted-exactly = (there, λ h. back (plan (O32 d) bodies l) refl h)
+  accepted-exactly = (there, λ h. back (scan (O32 d) bodies l) refl h)
     where
       there : ((ks : List ℕ) × Accepted bodies l ks) → (r place j : ℕ) → RefusedAt bodies l r place j → ⊥
       there a r place j v =
-          let e : plan (O32 d) bodies l ≡ stopped r place j = refused-exactly r place j .1 v in
-          impossible (cc (accepted-planned d bodies l (a .0) (a .1) .planned))
+          let e : scan (O32 d) bodies l ≡ stopped r place j = refused-exactly r place j .1 v in
+          impossible (cc (accepted-scanned d bodies l (a .0) (a .1) .scanned))
 
-      back : (q : Plan State) → plan (O32 d) bodies l ≡ q → ((r place j : ℕ) → RefusedAt bodies l r place j → ⊥) → (ks : List ℕ) × Accepted bodies l ks
+      back : (q : Scan State) → scan (O32 d) bodies l ≡ q → ((r place j : ℕ) → RefusedAt bodies l r place j → ⊥) → (ks : List ℕ) × Accepted bodies l ks
       back (stopped r place j) e h = absurd (h r place j (refused-exactly r place j .0 e))
-      back (complete L last) e h = (kinds L, planned-accepted d bodies l L last e)
+      back (complete L last) e h = (kinds L, scanned-accepted d bodies l L last e)

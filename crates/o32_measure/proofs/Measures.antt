@@ -9,7 +9,7 @@ use lib.ListN.{length, getD}
 use Rattle.device.specs.declared.Device.{Device}
 use Rattle.device.specs.declared.Device.the-variants.{Fpu}
 use Rattle.kinds.specs.declared.Kind.{Kind}
-use Rattle.carried.specs.Convention.{bodyLength, taken, plan}
+use Rattle.carried.specs.Convention.{bodyLength, taken, scan}
 use Rattle.passes.specs.declared.Measured.{Measured}
 use Rattle.passes.specs.declared.Measured.the-variants as M
 use Rattle.passes.specs.Passes.{measured}
@@ -35,11 +35,11 @@ module _ (bodies : Bool) (list : List ℕ) (st : State) (n at : ℕ) (w : Measur
   pub measure-bounds : (n ≤ 4096) × (st .end ≤ endMost) × (st .prefix .count ≤ argumentsMost)
   measure-bounds = (walk-small (w Fpu), w Fpu .held .fits, w Fpu .held .few)
 
-  pub measure-ends : (m : ℕ) → length list ≤ at → m ≡ imageSize (st .end) → (d : Device) → M.Accepted n m ≡ measured (O32 d) (plan (O32 d) bodies list)
+  pub measure-ends : (m : ℕ) → length list ≤ at → m ≡ imageSize (st .end) → (d : Device) → M.Accepted n m ≡ measured (O32 d) (scan (O32 d) bodies list)
   measure-ends m h i d = walk-ends (w d) h i
 
   module _ (h : at < length list) (t : Record) (e : (d : Device) → t ≡ recordOf (taken (O32 d) bodies (length list - (at + 1)) st (getD list at 0))) where
-    pub measure-refused : (r j : ℕ) (m : Measured) → t ≡ R.Refused r j → m ≡ refusedAt at t → (d : Device) → m ≡ measured (O32 d) (plan (O32 d) bodies list)
+    pub measure-refused : (r j : ℕ) (m : Measured) → t ≡ R.Refused r j → m ≡ refusedAt at t → (d : Device) → m ≡ measured (O32 d) (scan (O32 d) bodies list)
     measure-refused r j m g q d = q ∙ ap (refusedAt at) g ∙ walk-refused (w d) h (was-refused d bodies (length list - (at + 1)) st (getD list at 0) (e d) g)
 
     module _ (j : ℕ) (kd : Kind) (st′ : State) (g : t ≡ R.Taken j kd st′) where

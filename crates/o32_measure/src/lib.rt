@@ -3,7 +3,7 @@ ghost use mathlib.Core.Bool.{false, true};
 ghost use mathlib.Core.Path.{_≡_};
 ghost use Prim.Native.Nat.{_≤_};
 ghost use Rattle.device.specs.declared.Device.{Device};
-ghost use Rattle.carried.specs.Convention.{plan};
+ghost use Rattle.carried.specs.Convention.{scan};
 ghost use Rattle.passes.specs.Passes.{measured};
 ghost use Rattle.o32.specs.O32.{O32, endMost, imageSize};
 ghost use Rattle.o32_measure.specs.Measured.{refusedAt};
@@ -40,7 +40,7 @@ fn image_length(end: usize) -> usize
 
 // The walk over the records of a list (bodies) or of a signature.
 fn measure(list: &[u8], bodies: bool) -> Measured
-    ensures { λ r. ⌜ ((d : Device) → r ≡ measured (O32 d) (plan (O32 d) bodies (now (list .entry)))) ⌝ }
+    ensures { λ r. ⌜ ((d : Device) → r ≡ measured (O32 d) (scan (O32 d) bodies (now (list .entry)))) ⌝ }
 {
     let mut st = o32_step::start();
     let mut length = 0;
@@ -63,14 +63,14 @@ fn measure(list: &[u8], bodies: bool) -> Measured
 
 // The records of a list: refusals 1 to 5 with place and argument, or the length of the list and of its image.
 pub fn measure_list(list: &[u8]) -> Measured
-    ensures { λ r. ⌜ ((d : Device) → r ≡ measured (O32 d) (plan (O32 d) true (now (list .entry)))) ⌝ }
+    ensures { λ r. ⌜ ((d : Device) → r ≡ measured (O32 d) (scan (O32 d) true (now (list .entry)))) ⌝ }
 {
     measure(list, true)
 }
 
 // The records of a signature: refusals 1, 2, 3 and 5 with place and argument, or the length of the list and of its image.
 pub fn measure_signature(signature: &[u8]) -> Measured
-    ensures { λ r. ⌜ ((d : Device) → r ≡ measured (O32 d) (plan (O32 d) false (now (signature .entry)))) ⌝ }
+    ensures { λ r. ⌜ ((d : Device) → r ≡ measured (O32 d) (scan (O32 d) false (now (signature .entry)))) ⌝ }
 {
     measure(signature, false)
 }

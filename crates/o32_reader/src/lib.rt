@@ -5,7 +5,7 @@ ghost use Prim.Native.Nat.{_≤_, ℕ};
 ghost use lib.ListN.{length};
 ghost use Rattle.answers.specs.Outcomes.{Outcome, bufferOf, done, over};
 ghost use Rattle.carried.specs.Image.{checked, reading};
-ghost use Rattle.carried.specs.Convention.{plan};
+ghost use Rattle.carried.specs.Convention.{scan};
 ghost use Rattle.passes.specs.Passes.{Admitted, judged, placedIn, verdict};
 ghost use Rattle.o32.specs.O32.{O32};
 use device::Device;
@@ -14,7 +14,7 @@ use passes::Checked;
 // The first kind whose word in the image is no proper promotion: refusal 8, or what a caller makes of it.
 pub fn check(device: Device, signature: &[u8], image: &[u8]) -> Checked
     requires { ⌜ Admitted (O32 device) false (now signature) (length (now image)) ⌝ }
-    ensures { λ r. ⌜ ((n : ℕ) (x : Outcome) → judged n r x ≡ checked n 0 (placedIn (plan (O32 device) false (now (signature .entry)))) (now (image .entry)) x) ⌝ }
+    ensures { λ r. ⌜ ((n : ℕ) (x : Outcome) → judged n r x ≡ checked n 0 (placedIn (scan (O32 device) false (now (signature .entry)))) (now (image .entry)) x) ⌝ }
 {
     let mut st = o32_step::start();
     let mut at = 0;
@@ -36,8 +36,8 @@ pub fn check(device: Device, signature: &[u8], image: &[u8]) -> Checked
 // The kinds and the bodies that the image carries for them, into a buffer that has room.
 fn copy_list(device: Device, signature: &[u8], image: &[u8], out: &mut [u8])
     requires { ⌜ Admitted (O32 device) false (now signature) (length (now image)) ⌝ }
-    requires { ⌜ length (reading (placedIn (plan (O32 device) false (now signature))) (now image)) ≤ length (now out) ⌝ }
-    ensures { λ _. ⌜ now (out .exit) ≡ over (reading (placedIn (plan (O32 device) false (now (signature .entry)))) (now (image .entry))) (now (out .entry)) ⌝ }
+    requires { ⌜ length (reading (placedIn (scan (O32 device) false (now signature))) (now image)) ≤ length (now out) ⌝ }
+    ensures { λ _. ⌜ now (out .exit) ≡ over (reading (placedIn (scan (O32 device) false (now (signature .entry)))) (now (image .entry))) (now (out .entry)) ⌝ }
 {
     let mut st = o32_step::start();
     let mut at = 0;
@@ -57,9 +57,9 @@ fn copy_list(device: Device, signature: &[u8], image: &[u8], out: &mut [u8])
 // Refusal 8, or the list into a buffer that has room: no byte is stored before 8 is decided.
 pub fn deliver(device: Device, signature: &[u8], image: &[u8], out: &mut [u8]) -> Checked
     requires { ⌜ Admitted (O32 device) false (now signature) (length (now image)) ⌝ }
-    requires { ⌜ length (reading (placedIn (plan (O32 device) false (now signature))) (now image)) ≤ length (now out) ⌝ }
-    ensures { λ r. ⌜ ((x : Outcome) → verdict r x ≡ checked 8 0 (placedIn (plan (O32 device) false (now (signature .entry)))) (now (image .entry)) x) ⌝ }
-    ensures { λ _. ⌜ now (out .exit) ≡ bufferOf (checked 8 0 (placedIn (plan (O32 device) false (now (signature .entry)))) (now (image .entry)) (done (reading (placedIn (plan (O32 device) false (now (signature .entry)))) (now (image .entry))))) (now (out .entry)) ⌝ }
+    requires { ⌜ length (reading (placedIn (scan (O32 device) false (now signature))) (now image)) ≤ length (now out) ⌝ }
+    ensures { λ r. ⌜ ((x : Outcome) → verdict r x ≡ checked 8 0 (placedIn (scan (O32 device) false (now (signature .entry)))) (now (image .entry)) x) ⌝ }
+    ensures { λ _. ⌜ now (out .exit) ≡ bufferOf (checked 8 0 (placedIn (scan (O32 device) false (now (signature .entry)))) (now (image .entry)) (done (reading (placedIn (scan (O32 device) false (now (signature .entry)))) (now (image .entry))))) (now (out .entry)) ⌝ }
 {
     let checked = check(device, signature, image);
     let Checked::Proper = checked else {

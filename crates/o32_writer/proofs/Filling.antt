@@ -17,12 +17,12 @@ use Rattle.o32_offsets.specs.Offsets.{extension}
 use Rattle.o32.specs.declared.State.{State}
 use Rattle.o32.specs.declared.Placement.{Placement}
 use Rattle.o32.specs.O32.{O32, carriers, advance, placement}
-use Rattle.o32_laws.proofs.Bounds.{plan-bound}
+use Rattle.o32_laws.proofs.Bounds.{scan-bound}
 use Rattle.o32_laws.proofs.Premises.{O32-premises}
 
 -- no accepted list is longer
 pub list-short : (d : Device) {list : List ℕ} {m : ℕ} → Admitted (O32 d) true list m → length list ≤ 1057
-list-short d {list} a = plan-bound d true list (a .placed) (a .last) (a .planned) .long
+list-short d {list} a = scan-bound d true list (a .placed) (a .last) (a .scanned) .long
 
 module _ (d : Device) {list : List ℕ} {m : ℕ} {final : List ℕ} {st : State} {at : ℕ} {img : List ℕ} (w : Filling (O32-premises d) list m final st at img) (h : at < length list)
     {kd : Kind} (e : kd ≡ kindOf (getD list at 0)) {p : Placement} (g : p ≡ placement d st kd) where

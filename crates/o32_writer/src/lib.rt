@@ -6,7 +6,7 @@ ghost use Prim.Native.Nat.{_-_, _≤_};
 ghost use lib.ListN.{drop, length, replicate};
 ghost use Rattle.places.specs.Places.{put};
 ghost use Rattle.carried.specs.Image.{carried, image, promotedBytes};
-ghost use Rattle.carried.specs.Convention.{plan};
+ghost use Rattle.carried.specs.Convention.{scan};
 ghost use Rattle.passes.specs.Passes.{Admitted, placedIn};
 ghost use Rattle.o32.specs.O32.{O32};
 ghost use Rattle.o32_store.specs.Block.{whole};
@@ -28,7 +28,7 @@ fn clear(out: &mut [u8], n: usize)
 fn fill(device: Device, list: &[u8], out: &mut [u8], n: usize) -> [u32; 8]
     requires { ⌜ Admitted (O32 device) true (now list) n ⌝ }
     requires { ⌜ n ≤ length (now out) ⌝ }
-    ensures { λ r. ⌜ whole r (now (out .exit)) ≡ put (whole (replicate 8 0) (now (out .entry))) (carried (placedIn (plan (O32 device) true (now (list .entry))))) (promotedBytes (placedIn (plan (O32 device) true (now (list .entry)))) (now (list .entry))) ⌝ }
+    ensures { λ r. ⌜ whole r (now (out .exit)) ≡ put (whole (replicate 8 0) (now (out .entry))) (carried (placedIn (scan (O32 device) true (now (list .entry))))) (promotedBytes (placedIn (scan (O32 device) true (now (list .entry)))) (now (list .entry))) ⌝ }
 {
     let mut block = [0u32; 8];
     let mut st = o32_step::start();
@@ -49,7 +49,7 @@ fn fill(device: Device, list: &[u8], out: &mut [u8], n: usize) -> [u32; 8]
 pub fn lay(device: Device, list: &[u8], out: &mut [u8], n: usize)
     requires { ⌜ Admitted (O32 device) true (now list) n ⌝ }
     requires { ⌜ n ≤ length (now out) ⌝ }
-    ensures { λ _. ⌜ now (out .exit) ≡ image n (placedIn (plan (O32 device) true (now (list .entry)))) (now (list .entry)) ++ drop n (now (out .entry)) ⌝ }
+    ensures { λ _. ⌜ now (out .exit) ≡ image n (placedIn (scan (O32 device) true (now (list .entry)))) (now (list .entry)) ++ drop n (now (out .entry)) ⌝ }
 {
     clear(out, n);
     let block = fill(device, list, out, n);

@@ -9,18 +9,18 @@ use native.Mathlib.Omega.{arith}
 use lib.ListN.{length, getD, drop}
 use Rattle.words.specs.Words.{promote}
 use Rattle.carried.specs.Image.{Placed}
-use Rattle.carried.specs.Convention.{Step, refuse, next, Convention, Plan, stopped, complete, prepend, bodyLength, taken}
+use Rattle.carried.specs.Convention.{Step, refuse, next, Convention, Scan, stopped, complete, prepend, bodyLength, taken}
 use Rattle.carried.proofs.Walks.{sized-at, laws-at, walked, walk-grows, Walked}
-use Rattle.carried.proofs.Records.{planAt, records-end, record-stops, taken-inside, record-goes-on}
+use Rattle.carried.proofs.Records.{scanAt, records-end, record-stops, taken-inside, record-goes-on}
 use Rattle.passes.specs.Passes.{Rest, Admitted}
 use Rattle.passes.proofs.Premises.{Premises, taken-stepped}
 use Rattle.words.proofs.Impossible.{impossible}
 
--- a plan that begins with a record
-data Begun {State : Type 0} (s : Placed) (q : Plan State) (last : State) : List Placed → Type 0 where
+-- a scan that begins with a record
+data Begun {State : Type 0} (s : Placed) (q : Scan State) (last : State) : List Placed → Type 0 where
   begun : (L : List Placed) → q ≡ complete L last → Begun s q last (s ∷ L)
 
-prepend-complete : {State : Type 0} (s : Placed) (q : Plan State) (L : List Placed) (last : State) → prepend s q ≡ complete L last → Begun s q last L
+prepend-complete : {State : Type 0} (s : Placed) (q : Scan State) (L : List Placed) (last : State) → prepend s q ≡ complete L last → Begun s q last L
 prepend-complete s (stopped r at j) L last e = impossible (cc)
 prepend-complete s (complete M st) L last e =
     let a : s ∷ M ≡ L = cc in
@@ -40,7 +40,7 @@ ahead-starts given a = record { inside = omega arith; rest = a; bytes = 0; held 
 pub ahead-ends : {c : Convention} {given : Premises c} {bodies : Bool} {list : List ℕ} {m : ℕ} {st : c .State} {at : ℕ} (w : Ahead given bodies list m st at)
     → length list ≤ at → w .rest .placed ≡ []
 ahead-ends {c} {given} {bodies} {list} {m} {st} {at} w h =
-    let e : complete [] st ≡ complete (w .rest .placed) (w .rest .last) = sym (records-end c bodies list at st (w .inside) h) ∙ w .rest .planned in
+    let e : complete [] st ≡ complete (w .rest .placed) (w .rest .last) = sym (records-end c bodies list at st (w .inside) h) ∙ w .rest .scanned in
     cc
 
 module _ {c : Convention} {given : Premises c} {bodies : Bool} {list : List ℕ} {m : ℕ} {st : c .State} {at : ℕ} (w : Ahead given bodies list m st at) (h : at < length list) where
@@ -63,7 +63,7 @@ module _ {c : Convention} {given : Premises c} {bodies : Bool} {list : List ℕ}
       go : (s : Step (c .Placement) (c .State)) → taken c bodies (length list - (at + 1)) st k ≡ s
           → taken c bodies (length list - (at + 1)) st k ≡ next (given .number st k) (given .place st k) stateNext
       go (refuse r j) e =
-          let z : stopped r at j ≡ complete (w .rest .placed) (w .rest .last) = sym (record-stops c bodies list at st h r j e) ∙ w .rest .planned in
+          let z : stopped r at j ≡ complete (w .rest .placed) (w .rest .last) = sym (record-stops c bodies list at st h r j e) ∙ w .rest .scanned in
           impossible (cc)
       go (next j p st′) e = e ∙ given .stepped st k j p st′ (taken-stepped c bodies (length list - (at + 1)) st k e .0)
 
@@ -87,16 +87,16 @@ module _ {c : Convention} {given : Premises c} {bodies : Bool} {list : List ℕ}
 
   pub ahead-next : {at′ : ℕ} → at′ ≡ placeNext → Next at′
   ahead-next e = rw e (
-      go (w .rest .placed) (prepend-complete recordHere (planAt c bodies list placeNext stateNext) (w .rest .placed) (w .rest .last)
-      (sym (record-goes-on c bodies list at st h (given .number st k) (given .place st k) stateNext ahead-taken) ∙ w .rest .planned)) refl)
+      go (w .rest .placed) (prepend-complete recordHere (scanAt c bodies list placeNext stateNext) (w .rest .placed) (w .rest .last)
+      (sym (record-goes-on c bodies list at st h (given .number st k) (given .place st k) stateNext ahead-taken) ∙ w .rest .scanned)) refl)
     where
-      go : (L : List Placed) → Begun recordHere (planAt c bodies list placeNext stateNext) (w .rest .last) L → w .rest .placed ≡ L → Next placeNext
+      go : (L : List Placed) → Begun recordHere (scanAt c bodies list placeNext stateNext) (w .rest .last) L → w .rest .placed ≡ L → Next placeNext
       go _ (begun M f) q =
           let v : Walked c (given .laws) bodies 0 (drop placeNext list) stateNext M (w .rest .last) = walked c (given .laws) bodies (drop placeNext list) placeNext 0 stateNext M (w .rest .last) f in
           record {
             rest = record {
               inside = ahead-inside;
-              rest = record { placed = M; last = w .rest .last; planned = f; whole = w .rest .whole };
+              rest = record { placed = M; last = w .rest .last; scanned = f; whole = w .rest .whole };
               bytes = w .bytes + 1 + recordHere .size;
               held = given .held-next (w .bytes) st k (given .number st k) (given .place st k) stateNext (w .held) (ahead-stepped .0) (ahead-stepped .1);
             };

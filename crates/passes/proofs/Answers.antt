@@ -11,7 +11,7 @@ use borrow.Author.Tests.{eq-eqb, ne-eqb, lt-ltb, le-ltb}
 use Rattle.answers.specs.declared.Answer.{Answer}
 use Rattle.answers.specs.Outcomes.{Outcome, done, refused, checkRoom, answerOf, bufferOf}
 use Rattle.carried.specs.Image.{Placed, image, reading, listLength, checked}
-use Rattle.carried.specs.Convention.{Convention, Plan, stopped, complete, plan, checkImage, writeInto, readInto}
+use Rattle.carried.specs.Convention.{Convention, Scan, stopped, complete, scan, checkImage, writeInto, readInto}
 use Rattle.carried.proofs.Readings.{image-length, reading-length}
 use Rattle.carried.proofs.Walks.{walk-of, walk-sized}
 use Rattle.passes.specs.declared.Measured.{Measured}
@@ -31,10 +31,10 @@ pub record Right (x : Outcome) (out : List ℕ) (a : Answer) (o : List ℕ) : Ty
 
 module _ (c : Convention) (bodies : Bool) (l : List ℕ) where
   -- it was refused, and so is the whole
-  pub was-refused : {m : Measured} {r p j : ℕ} → m ≡ measured c (plan c bodies l) → m ≡ M.Refused r p j → plan c bodies l ≡ stopped r p j
-  was-refused {m} {r} {p} {j} e g = go (plan c bodies l) refl (sym g ∙ e)
+  pub was-refused : {m : Measured} {r p j : ℕ} → m ≡ measured c (scan c bodies l) → m ≡ M.Refused r p j → scan c bodies l ≡ stopped r p j
+  was-refused {m} {r} {p} {j} e g = go (scan c bodies l) refl (sym g ∙ e)
     where
-      go : (q : Plan (c .State)) → plan c bodies l ≡ q → M.Refused r p j ≡ measured c q → plan c bodies l ≡ stopped r p j
+      go : (q : Scan (c .State)) → scan c bodies l ≡ q → M.Refused r p j ≡ measured c q → scan c bodies l ≡ stopped r p j
       go (stopped r′ p′ j′) f h =
           let x : r′ ≡ r = cc in
           let y : p′ ≡ p = cc in
@@ -47,12 +47,12 @@ module _ (c : Convention) (bodies : Bool) (l : List ℕ) where
     pub admitted : Admitted c bodies l m
     pub long : n ≡ listLength (admitted .placed)
 
-  pub was-accepted : {q : Measured} {n m : ℕ} → q ≡ measured c (plan c bodies l) → q ≡ M.Accepted n m → Lengths n m
-  was-accepted {q} {n} {m} e g = go (plan c bodies l) refl (sym g ∙ e)
+  pub was-accepted : {q : Measured} {n m : ℕ} → q ≡ measured c (scan c bodies l) → q ≡ M.Accepted n m → Lengths n m
+  was-accepted {q} {n} {m} e g = go (scan c bodies l) refl (sym g ∙ e)
     where
-      go : (q : Plan (c .State)) → plan c bodies l ≡ q → M.Accepted n m ≡ measured c q → Lengths n m
+      go : (q : Scan (c .State)) → scan c bodies l ≡ q → M.Accepted n m ≡ measured c q → Lengths n m
       go (stopped r at j) f h = impossible (cc)
-      go (complete L st) f h = record { admitted = record { placed = L; last = st; planned = f; whole = cc }; long = cc }
+      go (complete L st) f h = record { admitted = record { placed = L; last = st; scanned = f; whole = cc }; long = cc }
 
 pub refused-right : {x : Outcome} (out : List ℕ) {m : Measured} {r p j : ℕ} {a : Answer} → x ≡ refused r p j → m ≡ M.Refused r p j → a ≡ answerOf (outcome m (done [])) → Right x out a out
 refused-right out e g i = record { answer = i ∙ rw (g, e) refl; buffer = rw e }
@@ -60,7 +60,7 @@ refused-right out e g i = record { answer = i ∙ rw (g, e) refl; buffer = rw e 
 -- ---- the writer
 
 module _ (c : Convention) (list out : List ℕ) where
-  pub write-refused : {m : Measured} {r p j : ℕ} {a : Answer} → m ≡ measured c (plan c true list) → m ≡ M.Refused r p j → a ≡ answerOf (outcome m (done []))
+  pub write-refused : {m : Measured} {r p j : ℕ} {a : Answer} → m ≡ measured c (scan c true list) → m ≡ M.Refused r p j → a ≡ answerOf (outcome m (done []))
       → Right (writeInto c list (length out)) out a out
   write-refused e g i = refused-right out (rw (was-refused c true list e g)) g i
 
@@ -74,15 +74,15 @@ module _ (c : Convention) (list out : List ℕ) where
     pub write-short : length out < m → Right (writeInto c list (length out)) out (record { refusal = 7; place = 0; argument = 0; length = 0 }) out
     write-short h =
         let f = found .admitted in
-        record { answer = rw (f .planned, ← (f .whole), long, lt-ltb (length out) m h); buffer = rw (f .planned, ← (f .whole), long, lt-ltb (length out) m h) }
+        record { answer = rw (f .scanned, ← (f .whole), long, lt-ltb (length out) m h); buffer = rw (f .scanned, ← (f .whole), long, lt-ltb (length out) m h) }
 
-    pub write-done : {o : List ℕ} → m ≤ length out → o ≡ image m (placedIn (plan c true list)) list ++ drop m out
+    pub write-done : {o : List ℕ} → m ≤ length out → o ≡ image m (placedIn (scan c true list)) list ++ drop m out
         → Right (writeInto c list (length out)) out (record { refusal = 0; place = 0; argument = 0; length = m }) o
     write-done h e =
         let f = found .admitted in
         record {
-          answer = rw (f .planned, ← (f .whole), long, le-ltb (length out) m h, long);
-          buffer = e ∙ rw (f .planned, ← (f .whole), long, le-ltb (length out) m h, long);
+          answer = rw (f .scanned, ← (f .whole), long, le-ltb (length out) m h, long);
+          buffer = e ∙ rw (f .scanned, ← (f .whole), long, le-ltb (length out) m h, long);
         }
 
 -- ---- an image under an accepted signature: 6, 7, 8, or x
@@ -119,12 +119,12 @@ module _ {c : Convention} {sig img out x : List ℕ} {n m : ℕ} {into : Outcome
       image-room = omega (arith, w .long same)
 
       -- q is what the last pass found, o what it left in the buffer
-      module _ (q : Checked) {o : List ℕ} (i : (y : Outcome) → verdict q y ≡ checked 8 0 (placedIn (plan c false sig)) img y)
-          (b : o ≡ bufferOf (checked 8 0 (placedIn (plan c false sig)) img (done x)) out) where
-        reached : checked 8 0 (placedIn (plan c false sig)) img (done x) ≡ into
+      module _ (q : Checked) {o : List ℕ} (i : (y : Outcome) → verdict q y ≡ checked 8 0 (placedIn (scan c false sig)) img y)
+          (b : o ≡ bufferOf (checked 8 0 (placedIn (scan c false sig)) img (done x)) out) where
+        reached : checked 8 0 (placedIn (scan c false sig)) img (done x) ≡ into
         reached =
             let k : ltb (length out) (length x) ≡ false = le-ltb (length out) (length x) image-room in
-            rw (w .is, w .admitted .planned, right-length, k)
+            rw (w .is, w .admitted .scanned, right-length, k)
 
         answered : verdict q (done x) ≡ into
         answered = i (done x) ∙ reached
@@ -145,15 +145,15 @@ module _ {c : Convention} {sig img out x : List ℕ} {n m : ℕ} {into : Outcome
 -- ---- the reader
 
 module _ {c : Convention} (given : Premises c) (sig img out : List ℕ) where
-  pub read-refused : {m : Measured} {r p j : ℕ} {a : Answer} → m ≡ measured c (plan c false sig) → m ≡ M.Refused r p j → a ≡ answerOf (outcome m (done []))
+  pub read-refused : {m : Measured} {r p j : ℕ} {a : Answer} → m ≡ measured c (scan c false sig) → m ≡ M.Refused r p j → a ≡ answerOf (outcome m (done []))
       → Right (readInto c sig img (length out)) out a out
   read-refused e g i = refused-right out (rw (was-refused c false sig e g)) g i
 
-  pub read-delivers : {n m : ℕ} → Lengths c false sig n m → Delivers c sig img out (reading (placedIn (plan c false sig)) img) n m (readInto c sig img (length out))
+  pub read-delivers : {n m : ℕ} → Lengths c false sig n m → Delivers c sig img out (reading (placedIn (scan c false sig)) img) n m (readInto c sig img (length out))
   read-delivers found =
       let a = found .admitted in
       record {
         admitted = a;
-        long = λ e. rw (a .planned) (reading-length (a .placed) img (walk-sized c (given .laws) (walk-of c (given .laws) sig (c .start) (a .placed) (a .last) 0 (a .planned))) ∙ sym (found .long));
-        is = rw (a .planned);
+        long = λ e. rw (a .scanned) (reading-length (a .placed) img (walk-sized c (given .laws) (walk-of c (given .laws) sig (c .start) (a .placed) (a .last) 0 (a .scanned))) ∙ sym (found .long));
+        is = rw (a .scanned);
       }

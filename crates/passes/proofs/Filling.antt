@@ -13,7 +13,7 @@ use Rattle.words.specs.Words.{promote}
 use Rattle.places.specs.Places.{put}
 use Rattle.places.proofs.Places.{put-append, put-left}
 use Rattle.carried.specs.Image.{Placed, carried, promotedBytes, image}
-use Rattle.carried.specs.Convention.{Convention, plan}
+use Rattle.carried.specs.Convention.{Convention, scan}
 use Rattle.carried.specs.Carried.{OneEach}
 use Rattle.carried.proofs.Walks.{walked, walk-one-each}
 use Rattle.passes.specs.Passes.{placedIn, Admitted}
@@ -25,8 +25,8 @@ pub record Filling {c : Convention} (given : Premises c) (list : List ℕ) (m : 
   pub rest : put img (carried (ahead .rest .placed)) (promotedBytes (ahead .rest .placed) (drop at list)) ≡ final
 
 pub fill-starts : {c : Convention} (given : Premises c) {list : List ℕ} {m : ℕ} (img : List ℕ) {st : c .State} → st ≡ c .start → Admitted c true list m
-    → Filling given list m (put img (carried (placedIn (plan c true list))) (promotedBytes (placedIn (plan c true list)) list)) st 0 img
-fill-starts given img e a = rw (e, a .planned) (record { ahead = ahead-starts given a; rest = refl })
+    → Filling given list m (put img (carried (placedIn (scan c true list))) (promotedBytes (placedIn (scan c true list)) list)) st 0 img
+fill-starts given img e a = rw (e, a .scanned) (record { ahead = ahead-starts given a; rest = refl })
 
 module _ {c : Convention} {given : Premises c} {list : List ℕ} {m : ℕ} {final : List ℕ} {st : c .State} {at : ℕ} {img : List ℕ} (w : Filling given list m final st at img) where
   pub fill-ends : length list ≤ at → img ≡ final
@@ -58,8 +58,8 @@ module _ {c : Convention} {given : Premises c} {list : List ℕ} {m : ℕ} {fina
 
 -- an image in a buffer that was cleared, then filled
 pub filled-image : {c : Convention} (given : Premises c) {list : List ℕ} {m : ℕ} (out : List ℕ) → Admitted c true list m
-    → put (replicate m 0 ++ drop m out) (carried (placedIn (plan c true list))) (promotedBytes (placedIn (plan c true list)) list) ≡ image m (placedIn (plan c true list)) list ++ drop m out
+    → put (replicate m 0 ++ drop m out) (carried (placedIn (scan c true list))) (promotedBytes (placedIn (scan c true list)) list) ≡ image m (placedIn (scan c true list)) list ++ drop m out
 filled-image {c} given {list} {m} out a =
     let L : List Placed = a .placed in
-    let inside : OneEach m L = rw (a .whole) (walk-one-each c (given .laws) (walked c (given .laws) true list 0 0 (c .start) L (a .last) (a .planned) .walk)) in
-    rw (a .planned) (put-left (replicate m 0) (drop m out) (carried L) (promotedBytes L list) (λ p i. rw length-replicate (inside .inside p i)))
+    let inside : OneEach m L = rw (a .whole) (walk-one-each c (given .laws) (walked c (given .laws) true list 0 0 (c .start) L (a .last) (a .scanned) .walk)) in
+    rw (a .scanned) (put-left (replicate m 0) (drop m out) (carried L) (promotedBytes L list) (λ p i. rw length-replicate (inside .inside p i)))

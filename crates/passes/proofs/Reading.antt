@@ -13,7 +13,7 @@ use Rattle.places.specs.Places.{gather, put, run}
 use Rattle.places.proofs.Stores.{put-next}
 use Rattle.answers.specs.Outcomes.{Outcome, done, refused, over, bufferOf}
 use Rattle.carried.specs.Image.{Placed, reading, checked}
-use Rattle.carried.specs.Convention.{Convention, plan}
+use Rattle.carried.specs.Convention.{Convention, scan}
 use Rattle.carried.proofs.Readings.{length-body, fits-carriers}
 use Rattle.passes.specs.declared.Checked.{Checked}
 use Rattle.passes.specs.declared.Checked.the-variants as K
@@ -29,8 +29,8 @@ pub record Checking {c : Convention} (given : Premises c) (sig img : List ℕ) (
   pub same : (n : ℕ) (x : Outcome) → whole n x ≡ checked n at (ahead .rest .placed) img x
 
 pub check-starts : {c : Convention} (given : Premises c) {sig img : List ℕ} {st : c .State} → st ≡ c .start → Admitted c false sig (length img)
-    → Checking given sig img (λ n x. checked n 0 (placedIn (plan c false sig)) img x) st 0
-check-starts given e a = rw (e, a .planned) (record { ahead = ahead-starts given a; same = λ n x. refl })
+    → Checking given sig img (λ n x. checked n 0 (placedIn (scan c false sig)) img x) st 0
+check-starts given e a = rw (e, a .scanned) (record { ahead = ahead-starts given a; same = λ n x. refl })
 
 module _ {c : Convention} {given : Premises c} {sig img : List ℕ} {whole : ℕ → Outcome → Outcome} {st : c .State} {at : ℕ} (w : Checking given sig img whole st at) where
   pub check-ends : length sig ≤ at → (n : ℕ) (x : Outcome) → judged n K.Proper x ≡ whole n x
@@ -82,8 +82,8 @@ pub record Copying {c : Convention} (given : Premises c) (sig img out₀ final :
   pub whole : first ++ reading (ahead .rest .placed) img ≡ final
 
 pub copy-starts : {c : Convention} (given : Premises c) {sig img : List ℕ} (out : List ℕ) {st : c .State} → st ≡ c .start → Admitted c false sig (length img)
-    → Copying given sig img out (reading (placedIn (plan c false sig)) img) st 0 0 out
-copy-starts given out e a = rw (e, a .planned) (record { ahead = ahead-starts given a; first = []; long = refl; buffer = refl; whole = refl })
+    → Copying given sig img out (reading (placedIn (scan c false sig)) img) st 0 0 out
+copy-starts given out e a = rw (e, a .scanned) (record { ahead = ahead-starts given a; first = []; long = refl; buffer = refl; whole = refl })
 
 module _ {c : Convention} {given : Premises c} {sig img out₀ final : List ℕ} {st : c .State} {at n : ℕ} {out : List ℕ} (w : Copying given sig img out₀ final st at n out) where
   pub copy-ends : length sig ≤ at → out ≡ over final out₀

@@ -7,8 +7,8 @@ use Prim.Native.Nat.{ℕ, _+_, _-_, _≤_, _<_}
 use native.Mathlib.Omega.{arith}
 use lib.ListN.{length, getD}
 use Rattle.carried.specs.Image.{Placed}
-use Rattle.carried.specs.Convention.{refuse, next, Convention, Plan, stopped, complete, prepend, bodyLength, taken, plan}
-use Rattle.carried.proofs.Records.{planAt, records-end, record-stops, taken-inside, record-goes-on}
+use Rattle.carried.specs.Convention.{refuse, next, Convention, Scan, stopped, complete, prepend, bodyLength, taken, scan}
+use Rattle.carried.proofs.Records.{scanAt, records-end, record-stops, taken-inside, record-goes-on}
 use Rattle.passes.specs.declared.Measured.{Measured}
 use Rattle.passes.specs.declared.Measured.the-variants as M
 use Rattle.passes.specs.Passes.{measured}
@@ -23,31 +23,31 @@ further-none : (q : Measured) → further 0 q ≡ q
 further-none (M.Refused r p j) = refl
 further-none (M.Accepted m i) = ap (λ (x : ℕ). M.Accepted x i) (omega arith)
 
-further-prepend : (c : Convention) (n : ℕ) (s : Placed) (q : Plan (c .State)) → further n (measured c (prepend s q)) ≡ further (n + 1 + s .size) (measured c q)
+further-prepend : (c : Convention) (n : ℕ) (s : Placed) (q : Scan (c .State)) → further n (measured c (prepend s q)) ≡ further (n + 1 + s .size) (measured c q)
 further-prepend c n s (stopped r at j) = refl
 further-prepend c n s (complete L st) = ap (λ (x : ℕ). M.Accepted x (c .imageLength st)) (omega arith)
 
 -- at this place and state, after records of n bytes, the pass has found what the whole has
 pub record Walking {c : Convention} (given : Premises c) (bodies : Bool) (list : List ℕ) (st : c .State) (n at : ℕ) : Type 0 where
   pub inside : at ≤ length list
-  pub ahead : measured c (plan c bodies list) ≡ further n (measured c (planAt c bodies list at st))
+  pub ahead : measured c (scan c bodies list) ≡ further n (measured c (scanAt c bodies list at st))
   pub held : given .Held n st
 
 pub walk-starts : {c : Convention} (given : Premises c) (bodies : Bool) (list : List ℕ) {st : c .State} → st ≡ c .start → Walking given bodies list st 0 0
-walk-starts {c} given bodies list e = record { inside = omega arith; ahead = rw e (sym (further-none (measured c (plan c bodies list)))); held = rw e (given .held-first) }
+walk-starts {c} given bodies list e = record { inside = omega arith; ahead = rw e (sym (further-none (measured c (scan c bodies list)))); held = rw e (given .held-first) }
 
 module _ {c : Convention} {given : Premises c} {bodies : Bool} {list : List ℕ} {st : c .State} {n at : ℕ} (w : Walking given bodies list st n at) where
-  pub walk-ends : length list ≤ at → {m : ℕ} → m ≡ c .imageLength st → M.Accepted n m ≡ measured c (plan c bodies list)
+  pub walk-ends : length list ≤ at → {m : ℕ} → m ≡ c .imageLength st → M.Accepted n m ≡ measured c (scan c bodies list)
   walk-ends h i =
       ap (M.Accepted n) i
-      ∙ sym (w .ahead ∙ ap (λ (q : Plan (c .State)). further n (measured c q)) (records-end c bodies list at st (w .inside) h) ∙ ap (λ (x : ℕ). M.Accepted x (c .imageLength st)) (omega arith))
+      ∙ sym (w .ahead ∙ ap (λ (q : Scan (c .State)). further n (measured c q)) (records-end c bodies list at st (w .inside) h) ∙ ap (λ (x : ℕ). M.Accepted x (c .imageLength st)) (omega arith))
 
   pub walk-small : n ≤ 4096
   walk-small = given .held-small n st (w .held)
 
   module _ (h : at < length list) where
-    pub walk-refused : {r j : ℕ} → taken c bodies (length list - (at + 1)) st (getD list at 0) ≡ refuse r j → M.Refused r at j ≡ measured c (plan c bodies list)
-    walk-refused {r} {j} e = sym (w .ahead ∙ ap (λ (q : Plan (c .State)). further n (measured c q)) (record-stops c bodies list at st h r j e))
+    pub walk-refused : {r j : ℕ} → taken c bodies (length list - (at + 1)) st (getD list at 0) ≡ refuse r j → M.Refused r at j ≡ measured c (scan c bodies list)
+    walk-refused {r} {j} e = sym (w .ahead ∙ ap (λ (q : Scan (c .State)). further n (measured c q)) (record-stops c bodies list at st h r j e))
 
     module _ {j : ℕ} {p : c .Placement} {st′ : c .State} (e : taken c bodies (length list - (at + 1)) st (getD list at 0) ≡ next j p st′) where
       abbrev size : ℕ
@@ -66,7 +66,7 @@ module _ {c : Convention} {given : Premises c} {bodies : Bool} {list : List ℕ}
             inside = walk-inside;
             ahead =
                 w .ahead
-                ∙ ap (λ (q : Plan (c .State)). further n (measured c q)) (record-goes-on c bodies list at st h j p st′ e)
-                ∙ further-prepend c n (c .placedAt (getD list at 0) j p) (planAt c bodies list (at + 1 + bodyLength bodies size) st′);
+                ∙ ap (λ (q : Scan (c .State)). further n (measured c q)) (record-goes-on c bodies list at st h j p st′ e)
+                ∙ further-prepend c n (c .placedAt (getD list at 0) j p) (scanAt c bodies list (at + 1 + bodyLength bodies size) st′);
             held = given .held-next n st (getD list at 0) j p st′ (w .held) (s .0) (s .1);
           }

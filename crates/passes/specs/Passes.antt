@@ -5,14 +5,14 @@ use mathlib.Core.Bool.{Bool}
 use Prim.Native.Nat.{ℕ}
 use Rattle.answers.specs.Outcomes.{Outcome, refused}
 use Rattle.carried.specs.Image.{Placed, listLength}
-use Rattle.carried.specs.Convention.{Convention, Plan, stopped, complete, planFrom}
+use Rattle.carried.specs.Convention.{Convention, Scan, stopped, complete, scanFrom}
 use Rattle.passes.specs.declared.Measured.{Measured}
 use Rattle.passes.specs.declared.Measured.the-variants as M
 use Rattle.passes.specs.declared.Checked.{Checked}
 use Rattle.passes.specs.declared.Checked.the-variants as K
 
 -- The first pass: the refusal, its place and its argument, or the length of the list and of its image.
-abbrev pub measured : (c : Convention) → Plan (c .State) → Measured
+abbrev pub measured : (c : Convention) → Scan (c .State) → Measured
 measured c (stopped r at n) = M.Refused r at n
 measured c (complete L st) = M.Accepted (listLength L) (c .imageLength st)
 
@@ -31,8 +31,8 @@ judged number (K.Improper at n) x = refused number at n
 abbrev pub verdict : Checked → Outcome → Outcome
 verdict = judged 8
 
--- The records of a plan that is complete.
-abbrev pub placedIn : {State : Type 0} → Plan State → List Placed
+-- The records of a scan that is complete.
+abbrev pub placedIn : {State : Type 0} → Scan State → List Placed
 placedIn (stopped r at n) = []
 placedIn (complete L st) = L
 
@@ -40,7 +40,7 @@ placedIn (complete L st) = L
 pub record Rest (c : Convention) (bodies : Bool) (m : ℕ) (st : c .State) (at : ℕ) (l : List ℕ) : Type 0 where
   pub placed : List Placed
   pub last : c .State
-  pub planned : planFrom c bodies at st 0 l ≡ complete placed last
+  pub scanned : scanFrom c bodies at st 0 l ≡ complete placed last
   pub whole : m ≡ c .imageLength last
 
 -- A list (true) or a signature (false) that is accepted, whose images have m bytes.

@@ -10,7 +10,7 @@ use lib.Seq.{take-append-seam, length-take-le}
 use lib.Dec.{ltb}
 use borrow.Author.Tests.{le-ltb}
 use Rattle.io.specs.Counts.{Counts}
-use Rattle.carried.specs.Convention.{Plan, stopped, complete, plan, writePlan, write, writeInto}
+use Rattle.carried.specs.Convention.{Scan, stopped, complete, scan, writeScan, write, writeInto}
 use Rattle.carried.proofs.Buffers.{write-roomy}
 use Rattle.carried.proofs.Readings.{image-length}
 use Rattle.device.specs.declared.Device.the-variants.{Fpu}
@@ -18,7 +18,7 @@ use Rattle.o32.specs.declared.State.{State}
 use Rattle.o32.specs.O32.{O32, area, imageSize}
 use Rattle.answers.specs.declared.Answer.{Answer}
 use Rattle.answers.specs.Outcomes.{Outcome, done, refused, answerOf, bufferOf}
-use Rattle.o32_laws.proofs.Bounds.{refusal-bound, plan-bound}
+use Rattle.o32_laws.proofs.Bounds.{refusal-bound, scan-bound}
 use Rattle.o32_laws.proofs.Refusing.{by-record, refused-exactly}
 use Rattle.text.specs.Text.{storedLength, stored, imageText, refusalText}
 use Rattle.text.proofs.Decimal.{refusal-at-most-83}
@@ -34,15 +34,15 @@ area-small : (end : ℕ) → end ≤ 1024 → area end ≤ 1024
 area-small end h = omega arith
 
 bounded : (list : List ℕ) → Bounded (write (O32 Fpu) list)
-bounded list = go (plan (O32 Fpu) true list) refl
+bounded list = go (scan (O32 Fpu) true list) refl
   where
-    go : (q : Plan State) → plan (O32 Fpu) true list ≡ q → Bounded (writePlan (O32 Fpu) (λ n x. x) list q)
+    go : (q : Scan State) → scan (O32 Fpu) true list ≡ q → Bounded (writeScan (O32 Fpu) (λ n x. x) list q)
     go (stopped r place j) e =
         let n = by-record (refused-exactly Fpu true list r place j .0 e .holds) in
         let b = refusal-bound Fpu true list r place j e in
         (n .0, n .1, b .0, b .1)
     go (complete L last) e =
-        omega (arith, image-length (imageSize (last .end)) L list, area-small (last .end) (plan-bound Fpu true list L last e .fits))
+        omega (arith, image-length (imageSize (last .end)) L list, area-small (last .end) (scan-bound Fpu true list L last e .fits))
 
 -- ---- the text
 

@@ -10,13 +10,13 @@ use lib.ListN.{length, getD, take}
 use lib.Seq.{length-take-le, getD-take, take-take, take-all}
 use lib.Dec.{leb}
 use borrow.Author.Tests.{le-ltb, leb-true, leb-false}
-use Rattle.carried.specs.Convention.{Step, refuse, next, Plan, stopped, complete, plan, limited, taken, writePlan, write}
-use Rattle.carried.proofs.Refusals.{StopsAt, plan-stops}
+use Rattle.carried.specs.Convention.{Step, refuse, next, Scan, stopped, complete, scan, limited, taken, writeScan, write}
+use Rattle.carried.proofs.Refusals.{StopsAt, scan-stops}
 use Rattle.device.specs.declared.Device.the-variants.{Fpu}
 use Rattle.o32.specs.declared.State.{State}
 use Rattle.o32.specs.declared.Placement.{Placement}
 use Rattle.o32.specs.O32.{O32}
-use Rattle.o32_laws.proofs.Bounds.{refusal-bound, plan-bound}
+use Rattle.o32_laws.proofs.Bounds.{refusal-bound, scan-bound}
 use Rattle.kinds.proofs.KindFacts.{kind-facts}
 use Rattle.o32_laws.proofs.Steps.{step-described}
 use Rattle.report.specs.Report.{textOf, reportText, readLimit, ReadLimit}
@@ -39,19 +39,19 @@ module _ (n : ℕ) (enough : 1570 ≤ n) (list : List ℕ) where
         inside = omega arith;
         before = w .before;
         last = w .last;
-        accepted = ap (plan (O32 Fpu) true) (take-take place n list (omega arith)) ∙ w .accepted;
+        accepted = ap (scan (O32 Fpu) true) (take-take place n list (omega arith)) ∙ w .accepted;
         refusal = ap (taken (O32 Fpu) true (length (take n list) - (place + 1)) (w .last)) (getD-take n list place 0 (omega arith))
             ∙ enough-left (w .last) (getD list place 0) (length (take n list) - (place + 1)) (length list - (place + 1)) (omega arith) (omega arith) ∙ w .refusal;
       }
 
   written-by-first : n ≤ length list → write (O32 Fpu) (take n list) ≡ write (O32 Fpu) list
-  written-by-first long = go (plan (O32 Fpu) true list) refl
+  written-by-first long = go (scan (O32 Fpu) true list) refl
     where
-      go : (q : Plan State) → plan (O32 Fpu) true list ≡ q → write (O32 Fpu) (take n list) ≡ writePlan (O32 Fpu) (λ n x. x) list q
-      go (complete L last) e = absurd (omega (arith, plan-bound Fpu true list L last e .long))
+      go : (q : Scan State) → scan (O32 Fpu) true list ≡ q → write (O32 Fpu) (take n list) ≡ writeScan (O32 Fpu) (λ n x. x) list q
+      go (complete L last) e = absurd (omega (arith, scan-bound Fpu true list L last e .long))
       go (stopped r place j) e =
-          let w = stops-in-first long r place j (refusal-bound Fpu true list r place j e .0) (plan-stops (O32 Fpu) true list r place j .0 e) in
-          ap (writePlan (O32 Fpu) (λ n x. x) (take n list)) (plan-stops (O32 Fpu) true (take n list) r place j .1 w)
+          let w = stops-in-first long r place j (refusal-bound Fpu true list r place j e .0) (scan-stops (O32 Fpu) true list r place j .0 e) in
+          ap (writeScan (O32 Fpu) (λ n x. x) (take n list)) (scan-stops (O32 Fpu) true (take n list) r place j .1 w)
 
   reported-by-first : reportText (take n list) ≡ reportText list
   reported-by-first = go (leb n (length list)) refl

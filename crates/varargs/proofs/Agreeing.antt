@@ -20,7 +20,7 @@ use Rattle.places.proofs.Places.{gather-agree}
 use Rattle.o32_offsets.specs.Offsets.{endOf, width}
 use Rattle.o32_offsets.proofs.Offsets.{up-ge}
 use Rattle.carried.specs.Image.{Placed}
-use Rattle.carried.specs.Convention.{complete, plan}
+use Rattle.carried.specs.Convention.{complete, scan}
 use Rattle.carried.specs.Calls.{Agree}
 use Rattle.carried.proofs.Walks.{Walk, end, one, walk-grows}
 use Rattle.o32.specs.declared.State.{State}
@@ -120,7 +120,7 @@ module _ (d : Device) (sig a b : List ℕ) (agree : Agree (CarriedAfter d sig) a
       (g ∙ ap (stepped (kindOf k)) ends ∙ sym (end-append pre (k ∷ []) 0 ∙ end-after k (endOf 0 pre) [] n)) in
       ap₂ (λ (x y : List ℕ). x ++ y) now (subst (λ (o : ℕ). walkFrom (spilled a) o ks ≡ walkFrom (spilled b) o ks) g then)
 
-  pub walked-agree : {L : List Placed} {last : State} → plan (O32 d) false sig ≡ complete L last → marked sig ≡ true
+  pub walked-agree : {L : List Placed} {last : State} → scan (O32 d) false sig ≡ complete L last → marked sig ≡ true
       → length a ≡ imageSize (last .end) → length b ≡ imageSize (last .end) → walked sig a ≡ walked sig b
   walked-agree ok m la lb =
       let r = after-marker-of d sig ok m in

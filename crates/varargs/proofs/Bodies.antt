@@ -16,14 +16,14 @@ use Rattle.kinds.specs.Kinds.{kindOf, is}
 use Rattle.o32_offsets.specs.Offsets.{offset, width}
 use Rattle.o32_offsets.proofs.Offsets.{up-ge}
 use Rattle.carried.specs.Image.{Placed, reading}
-use Rattle.carried.specs.Convention.{next, complete, plan}
+use Rattle.carried.specs.Convention.{next, complete, scan}
 use Rattle.carried.proofs.Walks.{Walk, end, one, walk-grows}
 use Rattle.o32.specs.declared.State.{State}
 use Rattle.o32.specs.declared.Placement.{Placement}
 use Rattle.o32.specs.O32.{O32, floatRegister, register, start, imageSize}
 use Rattle.o32_laws.proofs.Laws.{O32-laws}
 use Rattle.o32_laws.proofs.Carrying.{late-register}
-use Rattle.o32_laws.proofs.Bounds.{plan-bound}
+use Rattle.o32_laws.proofs.Bounds.{scan-bound}
 use Rattle.varargs.specs.Walking.{spilled, bytesAt, walkFrom, after, walked, marked}
 use Rattle.varargs.specs.Varargs.{bodiesFrom, bodiesAfter, bodyBytes}
 use Rattle.varargs.proofs.Memory.{spilled-part}
@@ -86,7 +86,7 @@ bodies-within d (one {st = st} {k = k} e f w) a =
 
 -- ---- a whole signature
 
-module _ (d : Device) (sig : List ℕ) {L : List Placed} {last : State} (ok : plan (O32 d) false sig ≡ complete L last) (m : marked sig ≡ true) where
+module _ (d : Device) (sig : List ℕ) {L : List Placed} {last : State} (ok : scan (O32 d) false sig ≡ complete L last) (m : marked sig ≡ true) where
   rest : Rest d start sig L last
   rest = after-marker-of d sig ok m
 
@@ -106,4 +106,4 @@ module _ (d : Device) (sig : List ℕ) {L : List Placed} {last : State} (ok : pl
   -- and they are the most where one word stands before the marker, and after it no byte is lost.
   pub bodies-most : bodyBytes (after false sig) ≤ 1020
   bodies-most =
-      omega (arith, bodies-within d (rest .walk) (rest .after-marker), plan-bound d false sig L last ok .fits, rest .words-each (omega arith), rest .after-marker .some)
+      omega (arith, bodies-within d (rest .walk) (rest .after-marker), scan-bound d false sig L last ok .fits, rest .words-each (omega arith), rest .after-marker .some)

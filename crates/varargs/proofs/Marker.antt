@@ -19,7 +19,7 @@ use Rattle.places.specs.Places.{gather}
 use Rattle.o32_offsets.specs.Offsets.{endOf, offset, width}
 use Rattle.o32_offsets.proofs.Offsets.{up-ge, body-within}
 use Rattle.carried.specs.Image.{Placed, reading}
-use Rattle.carried.specs.Convention.{next, complete, plan}
+use Rattle.carried.specs.Convention.{next, complete, scan}
 use Rattle.carried.proofs.Walks.{Walk, end, one, walk-of, laws-at}
 use Rattle.carried.proofs.Readings.{length-body, fits-carriers}
 use Rattle.o32.specs.declared.State.{State}
@@ -187,5 +187,5 @@ module _ (d : Device) where
           }
 
   -- At every accepted signature with a marker.
-  pub after-marker-of : (sig : List ℕ) {L : List Placed} {last : State} → plan (O32 d) false sig ≡ complete L last → marked sig ≡ true → Rest start sig L last
+  pub after-marker-of : (sig : List ℕ) {L : List Placed} {last : State} → scan (O32 d) false sig ≡ complete L last → marked sig ≡ true → Rest start sig L last
   after-marker-of sig {L} {last} ok m = rest-after (walk-of (O32 d) (O32-laws d) sig start L last 0 ok) m

@@ -12,7 +12,7 @@ use Rattle.words.proofs.Impossible.{impossible}
 use Rattle.device.specs.declared.Device.{Device}
 use Rattle.answers.specs.Outcomes.{Outcome, done, refused, answerOf, bufferOf, checkRoom}
 use Rattle.carried.specs.Image.{Placed, checked}
-use Rattle.carried.specs.Convention.{Plan, stopped, complete, plan, checkImage}
+use Rattle.carried.specs.Convention.{Scan, stopped, complete, scan, checkImage}
 use Rattle.carried.specs.Calls.{resultOf}
 use Rattle.carried.proofs.Readings.{Passed, checked-passes}
 use Rattle.carried.proofs.CallRefusals.{image-refused, answer-refuses}
@@ -20,22 +20,22 @@ use Rattle.carried.proofs.Buffers.{of-either}
 use Rattle.o32.specs.declared.State.{State}
 use Rattle.o32.specs.O32.{O32, imageSize}
 use Rattle.o32_laws.specs.Refusing.{ImageRefuses}
-use Rattle.o32_laws.proofs.Refusing.{by-record, accepted-planned, refused-exactly}
+use Rattle.o32_laws.proofs.Refusing.{by-record, accepted-scanned, refused-exactly}
 use Rattle.o32_laws.proofs.Refusals.{keeps, accepts, image-refuses, image-numbered, signature-accepted}
-use Rattle.varargs.specs.Walking.{after, walked, marked, walkPlan, walkInto}
+use Rattle.varargs.specs.Walking.{after, walked, marked, walkScan, walkInto}
 use Rattle.varargs.specs.Varargs as W
 use Rattle.varargs.specs.Varargs.{bodyBytes, walkerOf, WalkerRefuses, WalkerRefusals, SameOnDevices}
 use Rattle.varargs.proofs.Bodies.{walked-long}
 
 module _ (d : Device) (sig img : List ℕ) (room r place j : ℕ) where
   -- of the image, once the signature is accepted and has a marker
-  exactly : (L : List Placed) (last : State) → plan (O32 d) false sig ≡ complete L last → marked sig ≡ true
+  exactly : (L : List Placed) (last : State) → scan (O32 d) false sig ≡ complete L last → marked sig ≡ true
       → (checkImage (O32 d) (checkRoom 7 room) img L last (walked sig img) ≡ refused r place j) ↔ ImageRefuses sig img (bodyBytes (after false sig)) room r place j
   exactly L last f m = Iff·trans
       (image-refused (O32 d) L last img (bodyBytes (after false sig)) room r place j (walked sig img) (walked-long d sig f m img))
       (image-refuses d sig L last f img (bodyBytes (after false sig)) room r place j)
 
-  there : (q : Plan State) → plan (O32 d) false sig ≡ q → walkPlan d (checkRoom 7 room) sig img q ≡ refused r place j → WalkerRefuses sig img room r place j
+  there : (q : Scan State) → scan (O32 d) false sig ≡ q → walkScan d (checkRoom 7 room) sig img q ≡ refused r place j → WalkerRefuses sig img room r place j
   there (stopped r′ place′ j′) f e =
       let x : r′ ≡ r = cc in
       let y : place′ ≡ place = cc in
@@ -49,13 +49,13 @@ module _ (d : Device) (sig img : List ℕ) (room r place j : ℕ) where
 
   back : WalkerRefuses sig img room r place j → walkInto d sig img room ≡ refused r place j
   back (W.by-record v) = rw (refused-exactly d false sig r place j .1 v)
-  back (W.unmarked v m x y z) = rw (accepted-planned d false sig sig v .planned, m, x, y, z)
+  back (W.unmarked v m x y z) = rw (accepted-scanned d false sig sig v .scanned, m, x, y, z)
   back (W.by-image v m w) =
-      let a = accepted-planned d false sig sig v in
-      rw (a .planned, m) (exactly (a .placed) (a .last) (a .planned) m .1 w)
+      let a = accepted-scanned d false sig sig v in
+      rw (a .scanned, m) (exactly (a .placed) (a .last) (a .scanned) m .1 w)
 
   walker-refuses : (walkInto d sig img room ≡ refused r place j) ↔ WalkerRefuses sig img room r place j
-  walker-refuses = (there (plan (O32 d) false sig) refl, back)
+  walker-refuses = (there (scan (O32 d) false sig) refl, back)
 
 module _ (d : Device) where
   numbered : {sig img : List ℕ} {room r place j : ℕ} → WalkerRefuses sig img room r place j → 1 ≤ r
@@ -84,9 +84,9 @@ taken-checked x (refused r place j) L img h = tt
 taken-checked x (done y) L img h = sym (h .1)
 
 taken : (d : Device) (sig img : List ℕ) (room : ℕ) → Taken (walked sig img) (walkInto d sig img room)
-taken d sig img room = go (plan (O32 d) false sig)
+taken d sig img room = go (scan (O32 d) false sig)
   where
-    go : (q : Plan State) → Taken (walked sig img) (walkPlan d (checkRoom 7 room) sig img q)
+    go : (q : Scan State) → Taken (walked sig img) (walkScan d (checkRoom 7 room) sig img q)
     go (stopped r place j) = tt
     go (complete L last) =
         let x : List ℕ = walked sig img in

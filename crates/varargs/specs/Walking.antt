@@ -10,7 +10,7 @@ use Rattle.kinds.specs.declared.Class.the-variants.{Marker}
 use Rattle.kinds.specs.declared.Kind.{Kind}
 use Rattle.kinds.specs.Kinds.{kindOf, is}
 use Rattle.o32_offsets.specs.Offsets.{width, endOf}
-use Rattle.carried.specs.Convention.{bodyLength, Plan, resolve, plan, checkImage}
+use Rattle.carried.specs.Convention.{bodyLength, Scan, resolve, scan, checkImage}
 use Rattle.o32.specs.declared.State.{State}
 use Rattle.o32.specs.O32.{O32}
 
@@ -66,15 +66,15 @@ abbrev pub marked : List ℕ → Bool
 marked [] = false
 marked (k ∷ ks) = is Marker (kindOf k) || marked ks
 
--- The walker on a device, by the plan of the signature and with a check of the room for what it takes. "Refusals: 15, signature without
+-- The walker on a device, by the scan of the signature and with a check of the room for what it takes. "Refusals: 15, signature without
 -- a marker, after all signature checks and before 6; then as the reader's, 7 by the walker's own length."
-abbrev pub walkPlan : Device → (ℕ → Outcome → Outcome) → List ℕ → List ℕ → Plan State → Outcome
-walkPlan d room sig img q = resolve q (λ L st. cond (marked sig) (checkImage (O32 d) room img L st (walked sig img)) (refused 15 0 0))
+abbrev pub walkScan : Device → (ℕ → Outcome → Outcome) → List ℕ → List ℕ → Scan State → Outcome
+walkScan d room sig img q = resolve q (λ L st. cond (marked sig) (checkImage (O32 d) room img L st (walked sig img)) (refused 15 0 0))
 
 -- Where there is room for anything,
 abbrev pub walk : Device → List ℕ → List ℕ → Outcome
-walk d sig img = walkPlan d (λ n x. x) sig img (plan (O32 d) false sig)
+walk d sig img = walkScan d (λ n x. x) sig img (scan (O32 d) false sig)
 
 -- and with a lent buffer of so many bytes.
 abbrev pub walkInto : Device → List ℕ → List ℕ → ℕ → Outcome
-walkInto d sig img room = walkPlan d (checkRoom 7 room) sig img (plan (O32 d) false sig)
+walkInto d sig img room = walkScan d (checkRoom 7 room) sig img (scan (O32 d) false sig)

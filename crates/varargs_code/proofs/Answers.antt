@@ -12,13 +12,13 @@ use Rattle.answers.specs.declared.Answer.{Answer}
 use Rattle.answers.specs.Outcomes.{done, answerOf}
 use Rattle.kinds.specs.Kinds.{is}
 use Rattle.o32_offsets.specs.Offsets.{endOf}
-use Rattle.carried.specs.Convention.{plan}
+use Rattle.carried.specs.Convention.{scan}
 use Rattle.passes.specs.declared.Measured.{Measured}
 use Rattle.passes.specs.declared.Measured.the-variants as M
 use Rattle.passes.specs.Passes.{measured, outcome}
 use Rattle.passes.proofs.Answers.{Right, Lengths, was-refused, refused-right, Delivers}
 use Rattle.o32.specs.O32.{O32, endMost}
-use Rattle.o32_laws.proofs.Bounds.{plan-bound}
+use Rattle.o32_laws.proofs.Bounds.{scan-bound}
 use Rattle.varargs.specs.Walking.{spilled, walkFrom, before, after, walked, marked, walkInto}
 use Rattle.varargs.specs.Varargs.{bodyBytes}
 use Rattle.varargs.proofs.Bodies.{walked-long, bodies-most}
@@ -60,22 +60,22 @@ started-as sig e f = subst (Starting sig) (sym e ∙ f) (starting sig)
 -- ---- what is answered
 
 module _ (d : Device) (sig img out : List ℕ) where
-  pub walk-refused : {m : Measured} {r p j : ℕ} {a : Answer} → m ≡ measured (O32 d) (plan (O32 d) false sig) → m ≡ M.Refused r p j → a ≡ answerOf (outcome m (done []))
+  pub walk-refused : {m : Measured} {r p j : ℕ} {a : Answer} → m ≡ measured (O32 d) (scan (O32 d) false sig) → m ≡ M.Refused r p j → a ≡ answerOf (outcome m (done []))
       → Right (walkInto d sig img (length out)) out a out
   walk-refused e g i = refused-right out (rw (was-refused (O32 d) false sig e g)) g i
 
   module _ {l m : ℕ} (found : Lengths (O32 d) false sig l m) where
     fits : found .admitted .last .end ≤ endMost
-    fits = plan-bound d false sig (found .admitted .placed) (found .admitted .last) (found .admitted .planned) .fits
+    fits = scan-bound d false sig (found .admitted .placed) (found .admitted .last) (found .admitted .scanned) .fits
 
     pub walk-before : Within endMost 0 (before sig)
-    walk-before = signature-before d sig (found .admitted .planned) fits
+    walk-before = signature-before d sig (found .admitted .scanned) fits
 
     pub walk-unmarked : {q : Start} → q ≡ startOf sig → q ≡ S.Unmarked
         → Right (walkInto d sig img (length out)) out (record { refusal = 15; place = 0; argument = 0; length = 0 }) out
     walk-unmarked e f =
         let u : marked sig ≡ false = started-as sig e f in
-        record { answer = rw (found .admitted .planned, u); buffer = rw (found .admitted .planned, u) }
+        record { answer = rw (found .admitted .scanned, u); buffer = rw (found .admitted .scanned, u) }
 
     module _ {q : Start} {place pointer : ℕ} (e : q ≡ startOf sig) (f : q ≡ S.Marked place pointer) where
       start : Started sig place pointer
@@ -88,13 +88,13 @@ module _ (d : Device) (sig img out : List ℕ) where
       bodies-are = ap₂ (walkFrom (spilled img)) (start .at) (start .from)
 
       pub walk-bytes : bodyBytes (drop place sig) ≤ endMost
-      walk-bytes = rw (start .from) (omega (arith, bodies-most d sig (found .admitted .planned) (start .found)))
+      walk-bytes = rw (start .from) (omega (arith, bodies-most d sig (found .admitted .scanned) (start .found)))
 
       pub walk-delivers : Delivers (O32 d) sig img out (walkFrom (spilled img) pointer (drop place sig)) (bodyBytes (drop place sig)) m (walkInto d sig img (length out))
       walk-delivers = record {
         admitted = found .admitted;
-        long = λ h. ap length bodies-are ∙ walked-long d sig (found .admitted .planned) (start .found) img (h ∙ found .admitted .whole) ∙ ap bodyBytes (sym (start .from));
-        is = rw (found .admitted .planned, start .found, bodies-are) refl;
+        long = λ h. ap length bodies-are ∙ walked-long d sig (found .admitted .scanned) (start .found) img (h ∙ found .admitted .whole) ∙ ap bodyBytes (sym (start .from));
+        is = rw (found .admitted .scanned, start .found, bodies-are) refl;
       }
 
       -- the walk stays in the area
@@ -102,5 +102,5 @@ module _ (d : Device) (sig img out : List ℕ) where
       walk-area h =
           let w = found .admitted .whole in (
             (omega arith, omega (arith, fits)),
-            rw (start .at, start .from) (signature-after d sig (found .admitted .planned) (omega (arith, fits)) (start .found)),
+            rw (start .at, start .from) (signature-after d sig (found .admitted .scanned) (omega (arith, fits)) (start .found)),
           )

@@ -10,7 +10,7 @@ use Rattle.kinds.specs.declared.Class.the-variants.{Marker}
 use Rattle.kinds.specs.Kinds.{kindOf, is}
 use Rattle.o32_offsets.specs.Offsets.{endOf}
 use Rattle.carried.specs.Image.{Placed}
-use Rattle.carried.specs.Convention.{complete, plan}
+use Rattle.carried.specs.Convention.{complete, scan}
 use Rattle.carried.proofs.Walks.{Walk, end, one, walk-of}
 use Rattle.o32.specs.declared.State.{State}
 use Rattle.o32.specs.O32.{O32, start}
@@ -36,7 +36,7 @@ module _ (d : Device) {limit : ℕ} where
       let m : is Marker (kindOf k) ≡ false = not-again d st k e a in
       (omega (arith, rises d st k e, ends-later d w), subst (λ (o : ℕ). Within limit o ks) (argument-end d st k e m) (kinds-within w h (argument-leads d st k e m a)))
 
-  module _ (sig : List ℕ) {L : List Placed} {last : State} (ok : plan (O32 d) false sig ≡ complete L last) (h : last .end ≤ limit) where
+  module _ (sig : List ℕ) {L : List Placed} {last : State} (ok : scan (O32 d) false sig ≡ complete L last) (h : last .end ≤ limit) where
     pub signature-before : Within limit 0 (before sig)
     signature-before = before-within (walk-of (O32 d) (O32-laws d) sig start L last 0 ok) h
 

@@ -6,7 +6,7 @@ use native.Mathlib.Omega.{arith}
 use lib.ListN.{length}
 use Rattle.passes.proofs.Answers.{Delivers, was-accepted, image-wrong, image-admitted, image-short, image-room, image-improper, image-done, read-refused, read-delivers}
 use Rattle.carried.specs.Image.{reading}
-use Rattle.carried.specs.Convention.{plan, readInto}
+use Rattle.carried.specs.Convention.{scan, readInto}
 use Rattle.passes.specs.Passes.{placedIn}
 use Rattle.o32.specs.O32.{O32}
 use Rattle.o32_laws.proofs.Premises.{O32-premises}
@@ -36,7 +36,7 @@ returns c =
 abbrev Found : tie.After-known-told → Type 0
 Found c =
     let s = c .before .before .before .before .before .before .before .args in
-    Delivers (O32 (s .device)) (s .signature .now) (s .image .now) (s .out .now) (reading (placedIn (plan (O32 (s .device)) false (s .signature .now))) (s .image .now))
+    Delivers (O32 (s .device)) (s .signature .now) (s .image .now) (s .out .now) (reading (placedIn (scan (O32 (s .device)) false (s .signature .now))) (s .image .now))
     (c .before .found .given .0 .0) (c .before .found .given .0 .1 .0) (readInto (O32 (s .device)) (s .signature .now) (s .image .now) (length (s .out .now)))
 
 found : (c : tie.After-known-told) → Found c

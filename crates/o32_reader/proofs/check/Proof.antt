@@ -6,7 +6,7 @@ use Prim.Native.Nat.{_-_}
 use lib.ListN.{length}
 use borrow.Author.Tests.{not-true, not-false}
 use Rattle.carried.specs.Image.{checked}
-use Rattle.carried.specs.Convention.{plan}
+use Rattle.carried.specs.Convention.{scan}
 use Rattle.passes.specs.Passes.{placedIn}
 use Rattle.passes.proofs.Reading.{Checking, check-starts, check-ends}
 use Rattle.o32.specs.O32.{O32}
@@ -18,7 +18,7 @@ use Rattle.o32_reader.proofs.check.Statement.{statement}
 use Rattle.o32_reader.proofs.check.Tie as tie
 
 abbrev Inv-loop : tie.InvT-loop
-Inv-loop device signature image st₀ at₀ st at = Checking (O32-premises device) signature image (λ n x. checked n 0 (placedIn (plan (O32 device) false signature)) image x) st at
+Inv-loop device signature image st₀ at₀ st at = Checking (O32-premises device) signature image (λ n x. checked n 0 (placedIn (scan (O32 device) false signature)) image x) st at
 
 abbrev μ-loop : tie.MeasureT-loop
 μ-loop device signature image st₀ at₀ st at = length signature - at

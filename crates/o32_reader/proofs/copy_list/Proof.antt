@@ -6,7 +6,7 @@ use mathlib.Core.Bool.{false}
 use Prim.Native.Nat.{_+_, _-_, _≤_}
 use lib.ListN.{length, length-set}
 use Rattle.carried.specs.Image.{reading}
-use Rattle.carried.specs.Convention.{plan}
+use Rattle.carried.specs.Convention.{scan}
 use Rattle.passes.specs.Passes.{placedIn}
 use Rattle.passes.proofs.Reading.{Copying, copy-starts, copy-ends}
 use Rattle.o32.specs.O32.{O32}
@@ -19,7 +19,7 @@ use Rattle.o32_reader.proofs.copy_list.Tie as tie
 
 abbrev Inv-loop : tie.InvT-loop
 Inv-loop device signature image out₀ st₀ at₀ n₀ out st at n =
-    (length out ≡ length out₀) × Copying (O32-premises device) signature image out₀ (reading (placedIn (plan (O32 device) false signature)) image) st at n out
+    (length out ≡ length out₀) × Copying (O32-premises device) signature image out₀ (reading (placedIn (scan (O32 device) false signature)) image) st at n out
 
 abbrev μ-loop : tie.MeasureT-loop
 μ-loop device signature image out₀ st₀ at₀ n₀ out st at n = length signature - at

@@ -7,7 +7,7 @@ use Prim.Native.Nat.{_+_, _-_, _≤_}
 use lib.ListN.{length, replicate}
 use Rattle.places.specs.Places.{put}
 use Rattle.carried.specs.Image.{carried, promotedBytes}
-use Rattle.carried.specs.Convention.{plan}
+use Rattle.carried.specs.Convention.{scan}
 use Rattle.passes.specs.Passes.{placedIn}
 use Rattle.passes.proofs.Filling.{Filling, fill-starts, fill-ends}
 use Rattle.o32.specs.O32.{O32}
@@ -21,7 +21,7 @@ use Rattle.o32_writer.proofs.fill.Tie as tie
 
 abbrev Inv-loop : tie.InvT-loop
 Inv-loop device list out₀ n block₀ st₀ at₀ out block st at =
-    let placed = placedIn (plan (O32 device) true list) in
+    let placed = placedIn (scan (O32 device) true list) in
     (length out ≡ length out₀) × Filling (O32-premises device) list n (put (whole (replicate 8 0) out₀) (carried placed) (promotedBytes placed list)) st at (whole block out)
 
 abbrev μ-loop : tie.MeasureT-loop
