@@ -1,42 +1,49 @@
 /*
  * o32.h - call images, structures and frames of the MIPS O32 convention.
  *
- * Seven functions do the work:
+ * Ten functions do the work:
  *
- *   o32_write     turns a list of arguments into a call image: the contents
- *                 of the argument registers and of the stack's argument area
- *                 at the moment of the call;
- *   o32_read      reads such an image back, given the kinds of the arguments;
- *   o32_walk      takes the arguments behind an ellipsis from such an image,
- *                 as the called routine does;
- *   o32_frame     lays out a function's stack frame;
- *   o32_prologue  writes the instructions that set a frame up;
- *   o32_epilogue  writes those that take it down and return;
- *   o32_describe  gives the size, the alignment and the kind of a structure,
- *                 from a description of its members.
+ *   o32_make_plan  says where each argument of a signature lies, once for all
+ *                  lists that have the signature;
+ *   o32_fill       turns such a list into a call image, by its plan: the
+ *                  contents of the argument registers and of the stack's
+ *                  argument area at the moment of the call;
+ *   o32_signature  gives the signature of a list;
+ *   o32_write      turns a list that is sent once into a call image, without a
+ *                  plan;
+ *   o32_read       reads such an image back, given the kinds of the arguments;
+ *   o32_walk       takes the arguments behind an ellipsis from such an image,
+ *                  as the called routine does;
+ *   o32_frame      lays out a function's stack frame;
+ *   o32_prologue   writes the instructions that set a frame up;
+ *   o32_epilogue   writes those that take it down and return;
+ *   o32_describe   gives the size, the alignment and the kind of a structure,
+ *                  from a description of its members.
  *
  * BUFFERS. Every buffer belongs to the caller: the functions allocate nothing,
  * keep no pointer after they have returned, and have no state. A buffer is a
- * pointer and its length in bytes; a buffer of length 0 may be a null pointer.
- * Inputs are only read. On success exactly the answered length is written, from
- * the start of the output buffer, and bytes beyond it keep their content. On a
- * refusal no byte of it changes. o32_frame and o32_describe have no output
- * buffer: all that they give is in their answers. The functions may be called
- * from several threads at once.
+ * pointer and its length, in bytes for all but plans, which are counted in
+ * words; a buffer of length 0 may be a null pointer. Inputs are only read. On
+ * success exactly the answered length is written, from the start of the output
+ * buffer, and what lies beyond it keeps its content. On a refusal nothing of it
+ * changes. o32_frame and o32_describe have no output buffer: all that they give
+ * is in their answers. The functions may be called from several threads at
+ * once.
  *
- * WHAT IS ASKED OF THE CALLER. Each pointer is valid for its length. The output
- * buffer must not overlap another buffer of the same call. During the call no
- * other thread uses the output buffer or writes to an input. Nothing else is
- * asked: any bytes, any lengths and any numbers may be given, and the output
- * buffer needs no content and no alignment beforehand.
+ * WHAT IS ASKED OF THE CALLER. Each pointer is valid for its length, and that
+ * to a plan is aligned as one to uint32_t must be; bytes need no alignment. The
+ * output buffer must not overlap another buffer of the same call. During the
+ * call no other thread uses the output buffer or writes to an input. Nothing
+ * else is asked: any bytes, any words, any lengths and any numbers may be
+ * given, and the output buffer needs no content beforehand.
  *
  * ANSWERS. `refusal` is 0 on success, otherwise the number of the refusal (see
  * the tables below). `place` says where, for refusals that have a place, and is
  * 0 otherwise. `argument` says which argument that is, counted from 1, and is 0
- * where there is none. `length` is the number of bytes written, and 0 on a
- * refusal. Look at every answer: after a refusal the buffer still holds what it
- * held before, such as the image of an earlier call, and that would be loaded.
- * The compiler warns where an answer is ignored.
+ * where there is none. `length` is the number of bytes written, of words by
+ * o32_make_plan, and 0 on a refusal. Look at every answer: after a refusal the
+ * buffer still holds what it held before, such as the image of an earlier call,
+ * and that would be loaded. The compiler warns where an answer is ignored.
  *
  * VERSIONS. O32_VERSION is the version of this header, o32_version() that of
  * the library. Both change with every release that changes or adds a struct or
@@ -51,16 +58,17 @@
  *
  * DEVICES
  *
- * The first parameter of each of the seven but o32_describe is the device, the
- * board that the call or the frame is for:
+ * The first parameter of each of the ten but o32_signature and o32_describe is
+ * the device, the board that the call or the frame is for:
  *
  *   0  O32_FPU      it has a floating-point unit
  *   1  O32_NO_FPU   it has none
  *
  * Any other number is a device without a floating-point unit too. No device is
  * refused. On a device without a unit no argument goes to a floating register,
- * and a frame can't save one. A structure has the same size, alignment and kind
- * on every device, so o32_describe asks for none.
+ * and a frame can't save one. A list has the same signature on every device,
+ * and a structure the same size, alignment and kind, so o32_signature and
+ * o32_describe ask for none.
  *
  * A floating-point unit here is one with 32-bit registers (FR = 0, -mfp32). Ask
  * how a routine with an ellipsis was compiled: the System V supplement, which
@@ -96,7 +104,8 @@
  * once, behind at least one argument that is no return pointer, and may come
  * last.
  *
- * A signature is the kind bytes of a list alone, in order.
+ * A signature is the kind bytes of a list alone, in order: at most 33, 32
+ * arguments and the marker.
  *
  * Example: 05 00000009 45 010203040506 is the word 9 and a structure of six
  * bytes. Its signature is 05 45.
@@ -129,11 +138,61 @@
  *     goes this way: a double, a single and a double go to $4 and $5, to $6,
  *     and to the area at offset 16. A double lies in the order of its bytes.
  *
- * Whatever carries nothing is zero in an image that o32_write makes: unused
- * registers, holes, fill, and the area's first 16 bytes, the homes of the
- * register words. o32_read and o32_walk ignore such bytes. Without a
- * floating-point unit the four words $f12 to $f15 carry nothing, whatever the
+ * Whatever carries nothing is zero in an image that o32_fill or o32_write
+ * makes: unused registers, holes, fill, and the area's first 16 bytes, the
+ * homes of the register words. o32_read and o32_walk ignore such bytes. Without
+ * a floating-point unit the four words $f12 to $f15 carry nothing, whatever the
  * arguments are.
+ *
+ *
+ * PLANS
+ *
+ * A plan is for a signature that is sent many times, as in a sweep. Make it
+ * once, from the signature and the device, and fill an image by it for each
+ * list that has the signature:
+ *
+ *   o32_plan plan;
+ *   o32_answer made = o32_make_plan(O32_FPU, signature, signature_len,
+ *                                   (uint32_t *)&plan, O32_PLAN_WORDS);
+ *
+ *   and where made.refusal is 0, for each list
+ *
+ *   o32_answer filled = o32_fill(O32_FPU,
+ *                                (const uint32_t *)&plan, O32_PLAN_WORDS,
+ *                                list, list_len, image, sizeof image);
+ *
+ * The image is the one that o32_write gives for the list, byte for byte. What
+ * the plan adds is a check: a list that was mistyped, so that its kinds are
+ * others than those of the sweep, is refused (but see the marker below). It
+ * saves no time, since the list is taken apart on every call and the plan
+ * compared. Where there is only a list, o32_signature gives its signature. For
+ * a list that is sent once there is o32_write: it answers what the three answer
+ * together.
+ *
+ * A plan is 98 words, O32_PLAN_WORDS, for which o32_plan has names. They are
+ * numbers of the machine that calls, not big-endian bytes. Both functions take
+ * them as words, so a struct is handed over as above.
+ *
+ *   words 0 to 95   32 times the kind byte of an argument, its offset, and 12
+ *                   or 14 if it goes to $f12 or $f14, else 0
+ *   word 96         the count of the arguments
+ *   word 97         A, the size of the area
+ *
+ * The arguments come in their order; entries past the count are zero. The
+ * marker is no argument and has no entry: the plan of 05 05 also serves a list
+ * with the kinds 05 0A 05. But that of 05 doesn't serve 43, though a structure
+ * of four bytes lies as a word does. A plan doesn't hold its device: o32_fill
+ * must be told it again, and the plan of another device serves only where it is
+ * the same, as it is unless an argument goes to a floating register.
+ *
+ * o32_fill compares the whole plan on every call, also past the count, with the
+ * one that the list's signature has on the device, and uses it for nothing else.
+ * So any words may be given: a plan that was damaged, or that isn't the list's,
+ * is refused (20).
+ *
+ * Example: the plan of 08 05 is 08, 0, 12, then 05, 8, 0, then 90 zeros, then
+ * the count 2 and the size 16. Without a floating-point unit the third word is
+ * 0.
  *
  *
  * ROUTINES WITH AN ELLIPSIS
@@ -157,29 +216,33 @@
  * to 8 and takes $6 and $7, which are 40000000 and 00000000.
  *
  *
- * REFUSALS OF o32_write, o32_read AND o32_walk
+ * REFUSALS OF LISTS, SIGNATURES, PLANS AND IMAGES
  *
- * Records are checked from left to right, each by 1 to 5 in this order; 15, 6,
- * 7 and 8 follow in this order when all records have passed. The place of 1 to
- * 5 is the offset of the record's kind byte in what was given, the list or the
- * signature; that of 8 is the offset of the first such kind byte in the
- * signature. Arguments are counted from 1, a return pointer too and the marker
- * not; the argument is the number that the refused one has or would have.
+ * They are those of o32_signature, o32_make_plan, o32_fill, o32_write, o32_read
+ * and o32_walk. Records are checked from left to right, each by 1 to 5 in this
+ * order; 20, 15, 6, 7 and 8 follow in this order when all records have passed.
+ * The place of 1 to 5 is the offset of the record's kind byte in what was
+ * given, the list or the signature; that of 8 is the offset of the first such
+ * kind byte in the signature. Arguments are counted from 1, a return pointer
+ * too and the marker not; the argument is the number that the refused one has
+ * or would have.
  *
  *   no.  meaning                                          place      argument
  *    1   unknown kind                                     kind byte  0
  *    2   marker in the wrong place, or repeated           kind byte  0
  *        return pointer in the wrong place, or repeated   kind byte  its number
  *    3   a 33rd argument                                  kind byte  33
- *    4   the body is cut off (o32_write only)             kind byte  its number
+ *    4   the body is cut off (lists only)                 kind byte  its number
  *    5   the argument ends beyond 1,024                   kind byte  its number
+ *   20   the plan isn't the one that the list's
+ *        signature has on the device (o32_fill only)      0          0
  *   15   the signature has no marker (o32_walk only)      0          0
  *    6   the image's length isn't the one that the
- *        signature asks for, 32 + A (not o32_write)       0          0
+ *        signature asks for, 32 + A (o32_read, o32_walk)  0          0
  *    7   the output buffer is shorter than the result     0          0
  *    8   the word of a byte or halfword (01 to 04) is
  *        none that promotion gives, as 00000080 for 01
- *        (not o32_write)                                  kind byte  its number
+ *        (o32_read, o32_walk)                             kind byte  its number
  *
  * o32_walk gives 8 just as o32_read does, for arguments before the marker too.
  *
@@ -280,7 +343,7 @@
 #include <stdint.h>
 
 /* The version of this header. The library's must be the same. */
-#define O32_VERSION 3
+#define O32_VERSION 4
 
 /*
  * Makes the compiler warn where an answer is ignored: by the language's own
@@ -314,6 +377,8 @@ extern "C" {
 
 /* Sizes of buffers that are always enough. */
 #define O32_LIST_MAX 1057     /* the longest list that is accepted */
+#define O32_SIGNATURE_MAX 33  /* the longest signature that is accepted */
+#define O32_PLAN_WORDS 98     /* every plan, in words */
 #define O32_IMAGE_MAX 1056    /* the longest image */
 #define O32_BODIES_MAX 1020   /* the most bytes of bodies behind a marker */
 #define O32_PROLOGUE_MAX 92   /* the longest prologue */
@@ -340,16 +405,34 @@ enum o32_refusal {
     O32_MALFORMED_DESCRIPTION = 16,
     O32_TOO_DEEP = 17,
     O32_MEMBER_BEYOND_LIMIT = 18,
-    O32_EMPTY_OR_NO_KIND = 19
+    O32_EMPTY_OR_NO_KIND = 19,
+    O32_PLAN_DIFFERS = 20
 };
 
-/* What o32_write, o32_read, o32_walk, o32_prologue and o32_epilogue answer. */
+/* What all functions answer that have an output buffer. */
 typedef struct {
     uint32_t refusal;  /* 0 on success */
     uint32_t place;    /* offset of the refused kind byte, or 0 */
     uint32_t argument; /* number of the refused argument, from 1, or 0 */
-    uint32_t length;   /* bytes written, 0 on a refusal */
+    uint32_t length;   /* bytes written, words of a plan; 0 on a refusal */
 } o32_answer;
+
+/* Where an argument lies. */
+typedef struct {
+    uint32_t kind;           /* its kind byte */
+    uint32_t offset;         /* its offset, as if all lay in the area */
+    uint32_t float_register; /* 12 or 14 if it goes to $f12 or $f14, else 0 */
+} o32_placement;
+
+/*
+ * Where all arguments of a signature lie: the 98 words of a plan by their
+ * names. Hand one over as (uint32_t *)&plan, O32_PLAN_WORDS.
+ */
+typedef struct {
+    o32_placement placements[32]; /* in the order of the arguments */
+    uint32_t count;               /* number of arguments; zeros stand past it */
+    uint32_t area;                /* size of the argument area */
+} o32_plan;
 
 /*
  * What o32_frame answers. Offsets are from $sp inside the frame; that of an
@@ -379,8 +462,38 @@ typedef struct {
 uint32_t o32_version(void);
 
 /*
- * Writes the image of a list. Refuses 1 to 5 and 7. An image buffer of
- * O32_IMAGE_MAX bytes is always enough.
+ * Writes the signature of a list: its kind bytes, in order. Refuses 1 to 5 and
+ * 7, the former with their places in the list. A buffer of O32_SIGNATURE_MAX
+ * bytes is always enough.
+ */
+O32_NODISCARD
+o32_answer o32_signature(const uint8_t *list, size_t list_len,
+                         uint8_t *signature, size_t signature_len);
+
+/*
+ * Writes the plan of a signature: O32_PLAN_WORDS words, which is the length
+ * answered. `plan_words` is the room, in words. Refuses 1 to 3, 5 and 7.
+ */
+O32_NODISCARD
+o32_answer o32_make_plan(uint32_t device,
+                         const uint8_t *signature, size_t signature_len,
+                         uint32_t *plan, size_t plan_words);
+
+/*
+ * Writes the image of a list by the plan of its signature. `plan_words` is the
+ * number of words of the plan; any number but O32_PLAN_WORDS is refused as a
+ * plan that differs. Refuses 1 to 5 of the list, then 20, then 7. An image
+ * buffer of O32_IMAGE_MAX bytes is always enough.
+ */
+O32_NODISCARD
+o32_answer o32_fill(uint32_t device,
+                    const uint32_t *plan, size_t plan_words,
+                    const uint8_t *list, size_t list_len,
+                    uint8_t *image, size_t image_len);
+
+/*
+ * Writes the image of a list, without a plan. Refuses 1 to 5 and 7. An image
+ * buffer of O32_IMAGE_MAX bytes is always enough.
  */
 O32_NODISCARD
 o32_answer o32_write(uint32_t device,
@@ -389,7 +502,7 @@ o32_answer o32_write(uint32_t device,
 
 /*
  * Writes the list that an image reads as under a signature: each kind byte with
- * its body, as o32_write takes it. `image_len` is the image's exact length, not
+ * its body, as o32_fill takes it. `image_len` is the image's exact length, not
  * that of a larger buffer around it. Refuses 1 to 3 and 5 to 8. A list buffer
  * of O32_LIST_MAX bytes is always enough.
  */

@@ -1,9 +1,10 @@
 /*
- * A worked example: a call image written, read back and taken apart as a
- * routine with an ellipsis does, a frame's code, and described structures.
+ * A worked example: a sweep of calls by one plan, a call image written, read
+ * back and taken apart as a routine with an ellipsis does, a frame's code, and
+ * described structures.
  *
  * Every buffer comes from malloc with exactly the length that is passed on, so
- * that a memory checker sees a byte read or written too far.
+ * that a memory checker sees a byte or a word read or written too far.
  */
 
 #include "o32.h"
@@ -45,6 +46,19 @@ static uint8_t *copy_of(const uint8_t *content, size_t length)
     uint8_t *bytes = buffer(length);
     memcpy(bytes, content, length);
     return bytes;
+}
+
+/* Room for words, filled with the same byte. */
+static uint32_t *word_buffer(size_t count)
+{
+    return (uint32_t *)(void *)buffer(count * sizeof(uint32_t));
+}
+
+static uint32_t *copy_of_words(const uint32_t *content, size_t count)
+{
+    uint32_t *words = word_buffer(count);
+    memcpy(words, content, count * sizeof(uint32_t));
+    return words;
 }
 
 static int all_are(const uint8_t *bytes, size_t length, uint8_t value)
@@ -111,6 +125,350 @@ static int are_words(const uint8_t *bytes, const uint32_t *words, size_t count)
         }
     }
     return 1;
+}
+
+/* The words of a plan have the names of o32_plan, in their order. */
+static void plan_layout(void)
+{
+    const size_t word = sizeof(uint32_t);
+    check(sizeof(o32_placement) == 3 * word &&
+              offsetof(o32_placement, kind) == 0 &&
+              offsetof(o32_placement, offset) == word &&
+              offsetof(o32_placement, float_register) == 2 * word,
+          "a placement is kind, offset and floating register");
+    check(sizeof(o32_plan) == O32_PLAN_WORDS * word && O32_PLAN_WORDS == 98 &&
+              offsetof(o32_plan, placements) == 0 &&
+              offsetof(o32_plan, count) == 96 * word &&
+              offsetof(o32_plan, area) == 97 * word,
+          "a plan is 32 placements, count and area, which are 98 words");
+}
+
+/* The plan of a signature, which is not refused. */
+static o32_plan *plan_of(uint32_t device, const uint8_t *kinds, size_t length)
+{
+    uint8_t *signature = copy_of(kinds, length);
+    o32_plan *plan = (o32_plan *)(void *)buffer(sizeof(o32_plan));
+    if (!is_answer(o32_make_plan(device, signature, length, (uint32_t *)plan,
+                                 O32_PLAN_WORDS),
+                   0, 0, 0, O32_PLAN_WORDS) ||
+        memcmp(signature, kinds, length) != 0) {
+        check(0, "a plan is made");
+    }
+    free(signature);
+    return plan;
+}
+
+static int is_placement(o32_placement placement, uint32_t kind,
+                        uint32_t offset, uint32_t float_register)
+{
+    return placement.kind == kind && placement.offset == offset &&
+           placement.float_register == float_register;
+}
+
+/* Whether a plan has this count, zeros past it, and this area. */
+static int ends_with(const o32_plan *plan, uint32_t count, uint32_t area)
+{
+    for (size_t i = count; i < 32; i++) {
+        if (!is_placement(plan->placements[i], 0, 0, 0)) {
+            return 0;
+        }
+    }
+    return plan->count == count && plan->area == area;
+}
+
+/* The calls of a sweep: a double, a word, a signed byte, a structure of six. */
+static const uint8_t sweep_kinds[] = {0x08, 0x05, 0x01, 0x45};
+enum { SWEEP_LIST = 9 + 5 + 2 + 7, SWEEP_IMAGE = 56 };
+
+static uint8_t *sweep_list(uint8_t step)
+{
+    const uint8_t list[SWEEP_LIST] = {
+        0x08, 0x3F, 0xF0, 0, 0, 0, 0, 0, step, 0x05, 0, 0,
+        1,    step, 0x01, (uint8_t)(0x7C + step), 0x45, 1, 2, 3, 4, 5, step};
+    return copy_of(list, sizeof list);
+}
+
+/* What the plan of the sweep says by its names. */
+static void plan_of_sweep(void)
+{
+    o32_plan *plan = plan_of(O32_FPU, sweep_kinds, sizeof sweep_kinds);
+    check(is_placement(plan->placements[0], 0x08, 0, 12) &&
+              is_placement(plan->placements[1], 0x05, 8, 0) &&
+              is_placement(plan->placements[2], 0x01, 12, 0) &&
+              is_placement(plan->placements[3], 0x45, 16, 0) &&
+              ends_with(plan, 4, 24),
+          "the plan has a placement for each argument");
+    free(plan);
+
+    plan = plan_of(O32_NO_FPU, sweep_kinds, sizeof sweep_kinds);
+    check(is_placement(plan->placements[0], 0x08, 0, 0) &&
+              ends_with(plan, 4, 24),
+          "without a unit the double is in no floating register");
+    free(plan);
+
+    plan = plan_of(O32_FPU, sweep_kinds, 0);
+    check(ends_with(plan, 0, 16), "without arguments only the homes remain");
+    free(plan);
+}
+
+/* Whether a list has the image of o32_write when it is filled by the plan. */
+static int filled_as_written(uint32_t device, const o32_plan *plan,
+                             const uint8_t *list)
+{
+    uint32_t *words = copy_of_words((const uint32_t *)plan, O32_PLAN_WORDS);
+    uint8_t *filled = buffer(SWEEP_IMAGE);
+    uint8_t *written = buffer(SWEEP_IMAGE);
+    int alike = is_answer(o32_fill(device, words, O32_PLAN_WORDS, list,
+                                   SWEEP_LIST, filled, SWEEP_IMAGE),
+                          0, 0, 0, SWEEP_IMAGE) &&
+                is_answer(o32_write(device, list, SWEEP_LIST, written,
+                                    SWEEP_IMAGE),
+                          0, 0, 0, SWEEP_IMAGE) &&
+                memcmp(filled, written, SWEEP_IMAGE) == 0 &&
+                memcmp(words, plan, sizeof *plan) == 0;
+    free(written);
+    free(filled);
+    free(words);
+    return alike;
+}
+
+/* One plan serves all lists of its signature. */
+static void sweep(uint32_t device)
+{
+    o32_plan *plan = plan_of(device, sweep_kinds, sizeof sweep_kinds);
+    int alike = 1;
+    for (uint8_t step = 0; step < 8; step++) {
+        uint8_t *list = sweep_list(step);
+        alike = alike && filled_as_written(device, plan, list);
+        free(list);
+    }
+    printf("device %08" PRIX32 "\n", device);
+    check(alike, "one plan gives all images of a sweep");
+    free(plan);
+}
+
+/* Whether the words are refused as a plan, and the image buffer stays. */
+static int plan_differs(uint32_t device, const uint32_t *words, size_t count,
+                        const uint8_t *list, size_t length)
+{
+    uint8_t *image = buffer(SWEEP_IMAGE);
+    int differs = is_answer(o32_fill(device, words, count, list, length, image,
+                                     SWEEP_IMAGE),
+                            O32_PLAN_DIFFERS, 0, 0, 0) &&
+                  all_are(image, SWEEP_IMAGE, 0xA5);
+    free(image);
+    return differs;
+}
+
+/* Every word of a plan counts, and every part of a word. */
+static void changed_plans(void)
+{
+    static const uint32_t changes[] = {1, 0x100, 0x10000, 0x80000000};
+
+    o32_plan *plan = plan_of(O32_FPU, sweep_kinds, sizeof sweep_kinds);
+    uint32_t *words = (uint32_t *)plan;
+    uint8_t *list = sweep_list(3);
+    int refused = 1;
+    for (size_t i = 0; i < O32_PLAN_WORDS; i++) {
+        for (size_t j = 0; j < sizeof changes / sizeof changes[0]; j++) {
+            words[i] += changes[j];
+            refused = refused && plan_differs(O32_FPU, words, O32_PLAN_WORDS,
+                                              list, SWEEP_LIST);
+            words[i] -= changes[j];
+        }
+    }
+    check(refused, "a plan with one word changed is refused");
+    check(filled_as_written(O32_FPU, plan, list),
+          "and serves again when it is as it was");
+    free(list);
+    free(plan);
+}
+
+/* So does the number of its words. */
+static void plans_of_other_lengths(void)
+{
+    const size_t fewer = O32_PLAN_WORDS - 1, more = O32_PLAN_WORDS + 1;
+
+    o32_plan *plan = plan_of(O32_FPU, sweep_kinds, sizeof sweep_kinds);
+    uint8_t *list = sweep_list(3);
+    check(plan_differs(O32_FPU, NULL, 0, list, SWEEP_LIST),
+          "no words are no plan");
+
+    uint32_t *words = copy_of_words((const uint32_t *)plan, fewer);
+    check(plan_differs(O32_FPU, words, fewer, list, SWEEP_LIST),
+          "nor is one without its last word a plan");
+    free(words);
+
+    words = word_buffer(more);
+    memcpy(words, plan, sizeof *plan);
+    check(plan_differs(O32_FPU, words, more, list, SWEEP_LIST),
+          "nor one with a word too many");
+    free(words);
+    free(list);
+    free(plan);
+}
+
+/* A plan holds neither the marker nor the device, but the kinds themselves. */
+static void plans_of_others(void)
+{
+    static const uint8_t words[] = {0x05, 0x05};
+    static const uint8_t marked[] = {0x05, 0, 0, 0, 1, 0x0A, 0x05, 0, 0, 0, 2};
+    static const uint8_t four[] = {0x05, 0, 0, 0, 1, 0x43, 0, 0, 0, 2};
+
+    o32_plan *plan = plan_of(O32_FPU, words, sizeof words);
+    uint8_t *list = copy_of(marked, sizeof marked);
+    uint8_t *image = buffer(48);
+    check(is_answer(o32_fill(O32_NO_FPU, (const uint32_t *)plan,
+                             O32_PLAN_WORDS, list, sizeof marked, image, 48),
+                    0, 0, 0, 48) &&
+              word_at(image, 0) == 1 && word_at(image, 1) == 2,
+          "a plan of words serves with a marker, and on another device");
+    free(image);
+    free(list);
+
+    list = copy_of(four, sizeof four);
+    check(plan_differs(O32_FPU, (const uint32_t *)plan, O32_PLAN_WORDS, list,
+                       sizeof four),
+          "but a structure of four bytes is no word");
+    free(list);
+    free(plan);
+
+    plan = plan_of(O32_NO_FPU, sweep_kinds, sizeof sweep_kinds);
+    list = sweep_list(3);
+    check(plan_differs(O32_FPU, (const uint32_t *)plan, O32_PLAN_WORDS, list,
+                       SWEEP_LIST),
+          "nor serves a plan without a unit where a float goes to $f12");
+    free(list);
+    free(plan);
+}
+
+/* The list is looked at first, then the plan, then the room for the image. */
+static void refused_fills(void)
+{
+    uint32_t *words = word_buffer(O32_PLAN_WORDS);
+    uint8_t *list = sweep_list(3);
+    uint8_t *image = buffer(SWEEP_IMAGE - 1);
+    check(is_answer(o32_fill(O32_FPU, words, O32_PLAN_WORDS, list,
+                             SWEEP_LIST - 1, NULL, 0),
+                    O32_BODY_CUT_OFF, 16, 4, 0) &&
+              is_answer(o32_fill(O32_FPU, NULL, 0, list, SWEEP_LIST - 1, NULL,
+                                 0),
+                        O32_BODY_CUT_OFF, 16, 4, 0),
+          "a list that is cut off is refused before any plan");
+    check(is_answer(o32_fill(O32_FPU, words, O32_PLAN_WORDS, list, SWEEP_LIST,
+                             NULL, 0),
+                    O32_PLAN_DIFFERS, 0, 0, 0),
+          "then words that are no plan, before the room");
+
+    o32_plan *plan = plan_of(O32_FPU, sweep_kinds, sizeof sweep_kinds);
+    check(is_answer(o32_fill(O32_FPU, (const uint32_t *)plan, O32_PLAN_WORDS,
+                             list, SWEEP_LIST, image, SWEEP_IMAGE - 1),
+                    O32_SHORT_OUTPUT, 0, 0, 0) &&
+              all_are(image, SWEEP_IMAGE - 1, 0xA5),
+          "then the room, and the buffer stays");
+    free(plan);
+    free(image);
+    free(list);
+    free(words);
+}
+
+/* A refused signature has its place, and the words stay. */
+static void refused_plans(void)
+{
+    static const uint8_t kinds[] = {0x05, 0x0A, 0x0B};
+    const size_t fewer = O32_PLAN_WORDS - 1, more = O32_PLAN_WORDS + 1;
+
+    uint8_t *signature = copy_of(kinds, sizeof kinds);
+    uint32_t *words = word_buffer(fewer);
+    check(is_answer(o32_make_plan(O32_FPU, signature, 3, words, fewer),
+                    O32_MISPLACED, 2, 2, 0) &&
+              is_answer(o32_make_plan(O32_FPU, signature, 2, words, fewer),
+                        O32_SHORT_OUTPUT, 0, 0, 0) &&
+              all_are((const uint8_t *)words, fewer * sizeof(uint32_t), 0xA5),
+          "a signature is looked at, then the room, and the words stay");
+    free(words);
+
+    words = word_buffer(more);
+    check(is_answer(o32_make_plan(O32_FPU, signature, 2, words, more), 0, 0, 0,
+                    O32_PLAN_WORDS) &&
+              words[O32_PLAN_WORDS - 1] == 16 &&
+              words[O32_PLAN_WORDS] == UINT32_C(0xA5A5A5A5),
+          "a word past the plan stays");
+    check(is_answer(o32_make_plan(O32_FPU, NULL, 0, words, more), 0, 0, 0,
+                    O32_PLAN_WORDS) &&
+              is_answer(o32_make_plan(O32_FPU, NULL, 0, NULL, 0),
+                        O32_SHORT_OUTPUT, 0, 0, 0),
+          "the empty signature has a plan, which needs its room");
+    free(words);
+    free(signature);
+}
+
+/* A caller that has a list gets its signature, whatever the device. */
+static void signatures(void)
+{
+    uint8_t *list = sweep_list(0);
+    uint8_t *signature = buffer(sizeof sweep_kinds + 1);
+    check(is_answer(o32_signature(list, SWEEP_LIST, signature,
+                                  sizeof sweep_kinds - 1),
+                    O32_SHORT_OUTPUT, 0, 0, 0) &&
+              is_answer(o32_signature(list, SWEEP_LIST - 1, signature,
+                                      sizeof sweep_kinds - 1),
+                        O32_BODY_CUT_OFF, 16, 4, 0) &&
+              all_are(signature, sizeof sweep_kinds + 1, 0xA5),
+          "no signature of a list that is cut off, nor in a short buffer");
+    check(is_answer(o32_signature(list, SWEEP_LIST, signature,
+                                  sizeof sweep_kinds + 1),
+                    0, 0, 0, sizeof sweep_kinds) &&
+              memcmp(signature, sweep_kinds, sizeof sweep_kinds) == 0 &&
+              signature[sizeof sweep_kinds] == 0xA5,
+          "a list has the kinds of its arguments");
+    check(is_answer(o32_signature(NULL, 0, NULL, 0), 0, 0, 0, 0),
+          "the empty list has none");
+    free(signature);
+    free(list);
+}
+
+/* 32 words and a marker: the longest signature, and a plan without a rest. */
+static void longest_signature(void)
+{
+    const size_t length = 32 * 5 + 1;
+    uint8_t *list = buffer(length);
+    for (size_t i = 0; i < 32; i++) {
+        list[5 * i] = 0x05;
+    }
+    list[length - 1] = 0x0A;
+
+    uint8_t *signature = buffer(O32_SIGNATURE_MAX);
+    check(is_answer(o32_signature(list, length, signature, O32_SIGNATURE_MAX),
+                    0, 0, 0, 33) &&
+              all_are(signature, 32, 0x05) && signature[32] == 0x0A,
+          "32 arguments and a marker have 33 kinds");
+    o32_plan *plan = plan_of(O32_FPU, signature, O32_SIGNATURE_MAX);
+    check(is_placement(plan->placements[0], 0x05, 0, 0) &&
+              is_placement(plan->placements[31], 0x05, 124, 0) &&
+              ends_with(plan, 32, 128),
+          "and their plan has an entry for each argument");
+    free(plan);
+    free(signature);
+    free(list);
+}
+
+/* Plan once, fill many. */
+static void plans(void)
+{
+    plan_layout();
+    plan_of_sweep();
+    signatures();
+    longest_signature();
+    sweep(O32_FPU);
+    sweep(O32_NO_FPU);
+    sweep(UINT32_C(0x100));
+    sweep(UINT32_C(0xFFFFFFFF));
+    changed_plans();
+    plans_of_other_lengths();
+    plans_of_others();
+    refused_fills();
+    refused_plans();
 }
 
 /* The word 9 and a structure of six bytes: $4, $5 and $6. */
@@ -571,6 +929,7 @@ int main(void)
     if (!has_version_of_header()) {
         return EXIT_FAILURE;
     }
+    plans();
     call_image();
     empty_buffers();
     refusals();

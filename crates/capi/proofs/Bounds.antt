@@ -9,12 +9,12 @@ use native.Mathlib.Omega.{arith}
 use lib.ListN.{length, length-append}
 use lib.Dec.{eqb, ltb}
 use borrow.Author.Tests.{eqb-true}
-use Rattle.words.specs.Words.{body, proper}
+use Rattle.words.specs.Words.{body, proper, same}
 use Rattle.device.specs.declared.Device.{Device}
 use Rattle.answers.specs.Outcomes.{Outcome, done, refused, checkRoom, answerOf, bufferOf}
 use Rattle.carried.specs.Image.{checked, image, reading, Placed}
 use Rattle.places.specs.Places.{gather}
-use Rattle.carried.specs.Convention.{Scan, stopped, complete, scan, writeScan, checkImage, readScan, writeInto, readInto}
+use Rattle.carried.specs.Convention.{Scan, stopped, complete, resolve, scan, writeScan, checkImage, readScan, writeInto, readInto}
 use Rattle.carried.proofs.Readings.{image-length}
 use Rattle.o32.specs.declared.State.{State}
 use Rattle.o32.specs.O32.{O32, imageSize}
@@ -22,6 +22,9 @@ use Rattle.o32_laws.proofs.Bounds.{Numbers, refusal-bound, scan-bound, reading-
 use Rattle.answers.specs.declared.Answer.{Answer}
 use Rattle.varargs.specs.Walking.{walked, marked, walkScan, walkInto}
 use Rattle.varargs.proofs.Bodies.{walked-long, bodies-most}
+use Rattle.carried.specs.Carried.{kinds}
+use Rattle.plans.specs.Plans.{planOf, numbers, makeInto, fillInto, signatureInto}
+use Rattle.plans.proofs.Entries.{entries-long, kinds-few, numbers-long}
 use Rattle.frame.specs.declared.Request.{Request}
 use Rattle.frame.specs.Words.{prologueWords, epilogueWords}
 use Rattle.frame_code.specs.Code.{codeInto, prologueInto, epilogueInto}
@@ -112,6 +115,44 @@ walk-bounded d sig img room (complete L last) e = go (marked sig) refl
 
 pub walk-fits : {a : Answer} (d : Device) (sig img : List ℕ) (room : ℕ) → a ≡ answerOf (walkInto d sig img room) → Fits a
 walk-fits d sig img room e = fits (walkInto d sig img room) (walk-bounded d sig img room (scan (O32 d) false sig) refl) e
+
+-- ---- plans
+
+make-bounded : (d : Device) (sig : List ℕ) (room : ℕ) → Bounded (makeInto d sig room)
+make-bounded d sig room = go (scan (O32 d) false sig) refl
+  where
+    go : (q : Scan State) → scan (O32 d) false sig ≡ q → Bounded (resolve q (λ L st. checkRoom 7 room (length (numbers (planOf d (kinds L)))) (done (numbers (planOf d (kinds L))))))
+    go (stopped r at j) e = refusal-bound d false sig r at j e
+    go (complete L last) e =
+        let x : List ℕ = numbers (planOf d (kinds L)) in
+        room-bounded 7 room (length x) (done x) (omega (arith, numbers-long (planOf d (kinds L)) (entries-long d false sig e)))
+
+pub make-fits : {a : Answer} (d : Device) (sig : List ℕ) (room : ℕ) → a ≡ answerOf (makeInto d sig room) → Fits a
+make-fits d sig room e = fits (makeInto d sig room) (make-bounded d sig room) e
+
+fill-bounded : (d : Device) (given list : List ℕ) (room : ℕ) → Bounded (fillInto d given list room)
+fill-bounded d given list room = go (scan (O32 d) true list) refl
+  where
+    either : (t : Bool) → Bounded (cond t (writeInto (O32 d) list room) (refused 20 0 0))
+    either true = write-bounded d list room (scan (O32 d) true list) refl
+    either false = nowhere
+
+    go : (q : Scan State) → scan (O32 d) true list ≡ q → Bounded (resolve q (λ L st. cond (same given (numbers (planOf d (kinds L)))) (writeInto (O32 d) list room) (refused 20 0 0)))
+    go (stopped r at j) e = refusal-bound d true list r at j e
+    go (complete L last) e = either (same given (numbers (planOf d (kinds L))))
+
+pub fill-fits : {a : Answer} (d : Device) (given list : List ℕ) (room : ℕ) → a ≡ answerOf (fillInto d given list room) → Fits a
+fill-fits d given list room e = fits (fillInto d given list room) (fill-bounded d given list room) e
+
+signature-bounded : (d : Device) (list : List ℕ) (room : ℕ) → Bounded (signatureInto d list room)
+signature-bounded d list room = go (scan (O32 d) true list) refl
+  where
+    go : (q : Scan State) → scan (O32 d) true list ≡ q → Bounded (resolve q (λ L st. checkRoom 7 room (length (kinds L)) (done (kinds L))))
+    go (stopped r at j) e = refusal-bound d true list r at j e
+    go (complete L last) e = room-bounded 7 room (length (kinds L)) (done (kinds L)) (omega (arith, kinds-few d true list e))
+
+pub signature-fits : {a : Answer} (d : Device) (list : List ℕ) (room : ℕ) → a ≡ answerOf (signatureInto d list room) → Fits a
+signature-fits d list room e = fits (signatureInto d list room) (signature-bounded d list room) e
 
 -- ---- the code of a frame
 

@@ -1,5 +1,5 @@
--- Demands 1 and 3, and what holds of the walker and of descriptions, of what the functions for C answer and leave in their buffers, for
--- every device number.
+-- Demands 1 and 3, and what holds of the walker, of plans and of descriptions, of what the functions for C answer and leave in their
+-- buffers, for every device number.
 -- Assumes nothing.
 use mathlib.Core.Path.{_≡_, refl}
 use mathlib.Core.List.{[]}
@@ -11,9 +11,11 @@ use Rattle.o32_laws.proofs.Refusals.{refusals}
 use Rattle.o32_laws.proofs.Demand.{demand}
 use Rattle.varargs.specs.Varargs.{Walks}
 use Rattle.varargs.proofs.Theorem.{walker}
+use Rattle.plans.specs.Pair.{Pairs, Demands}
+use Rattle.plans.proofs.Theorem.{pairs, demands}
 use Rattle.descriptions.specs.Descriptions.{Describes}
 use Rattle.descriptions.proofs.Theorem.{described-right}
-use Rattle.capi.specs.Numbers.{deviceOf, functionsForC, walkerForC, describerForC}
+use Rattle.capi.specs.Numbers.{deviceOf, functionsForC, walkerForC, pairForC, describerForC}
 
 -- A case, computed: the empty list into a buffer of 49 bytes has an image of 48.
 pub empty-for-c : functionsForC 0 .write [] (replicate 49 0xC5) .length ≡ 48
@@ -27,6 +29,12 @@ demand-for-c device = demand (deviceOf device)
 
 pub walker-for-c : (device : ℕ) → Walks (functionsForC device) (walkerForC device) (deviceOf device)
 walker-for-c device = walker (deviceOf device)
+
+pub pairs-for-c : (device : ℕ) → Pairs (functionsForC device) (pairForC device) (deviceOf device)
+pairs-for-c device = pairs (deviceOf device)
+
+pub demands-by-plan-for-c : (device : ℕ) → Demands (functionsForC device) (pairForC device) (deviceOf device)
+demands-by-plan-for-c device = demands (deviceOf device)
 
 pub descriptions-for-c : Describes describerForC
 descriptions-for-c = described-right

@@ -13,6 +13,8 @@ use Rattle.carried.specs.Calls.{Result, Functions}
 use Rattle.o32.specs.O32.{O32}
 use Rattle.varargs.specs.Walking.{walkInto}
 use Rattle.varargs.specs.Varargs.{Walker}
+use Rattle.plans.specs.Plans.{makeInto, fillInto, signatureInto}
+use Rattle.plans.specs.Pair.{Pair}
 use Rattle.descriptions.specs.declared.Structure.{Structure}
 use Rattle.descriptions.specs.Describing.{described}
 use Rattle.frame.specs.declared.Request.{Request}
@@ -71,6 +73,15 @@ functionsForC device = record {
 abbrev pub walkerForC : ℕ → Walker
 walkerForC device sig img out =
     resultForC (narrow (answerOf (walkInto (deviceOf device) sig img (length out)))) (bufferOf (walkInto (deviceOf device) sig img (length out)) out)
+
+-- `o32_make_plan` and `o32_fill` with this device, and `o32_signature`, which has none, likewise.
+abbrev pub pairForC : ℕ → Pair
+pairForC device = record {
+  make = λ sig lent. resultForC (narrow (answerOf (makeInto (deviceOf device) sig (length lent)))) (bufferOf (makeInto (deviceOf device) sig (length lent)) lent);
+  fill = λ given list out.
+      resultForC (narrow (answerOf (fillInto (deviceOf device) given list (length out)))) (bufferOf (fillInto (deviceOf device) given list (length out)) out);
+  signature = λ list lent. resultForC (narrow (answerOf (signatureInto (deviceOf device) list (length lent)))) (bufferOf (signatureInto (deviceOf device) list (length lent)) lent);
+}
 
 -- `o32_describe`, as its contract says: the numbers that a caller in C gets.
 abbrev pub describerForC : List ℕ → Structure

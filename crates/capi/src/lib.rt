@@ -5,7 +5,9 @@ ghost use lib.ListN.{length};
 ghost use Rattle.o32.specs.O32.{O32};
 ghost use Rattle.answers.specs.Outcomes.{answerOf, bufferOf};
 ghost use Rattle.carried.specs.Convention.{readInto, writeInto};
+ghost use Rattle.device.specs.declared.Device.{Device};
 ghost use Rattle.varargs.specs.Walking.{walkInto};
+ghost use Rattle.plans.specs.Plans.{fillInto, makeInto, signatureInto};
 ghost use Rattle.descriptions.specs.Describing.{described};
 ghost use Rattle.descriptions.specs.Descriptions.{placeMost};
 ghost use Rattle.frame.specs.Frame.{layoutOf};
@@ -109,9 +111,9 @@ fn as_request(leaf: u32, locals: u32, outgoing: u32, general: u32, pairs: u32) -
 // or a function here.
 #[no_mangle]
 pub extern "C" fn o32_version() -> u32
-    ensures { λ r. ⌜ r ≡ 3 ⌝ }
+    ensures { λ r. ⌜ r ≡ 4 ⌝ }
 {
-    3
+    4
 }
 
 // The call image of a list for a device.
@@ -151,6 +153,36 @@ pub extern "C" fn o32_walk(
     ensures buffer { λ _. ⌜ now (bodies .exit) ≡ bufferOf (walkInto (deviceOf device) (now (signature .entry)) (now (image .entry)) (length (now (bodies .entry)))) (now (bodies .entry)) ⌝ }
 {
     let answer = varargs_code::walk(as_device(device), signature, image, bodies);
+    narrowed(answer)
+}
+
+// The signature of a list.
+#[no_mangle]
+pub extern "C" fn o32_signature(list: &[u8], signature: &mut [u8]) -> O32Answer
+    ensures answer { λ r. ⌜ ((d : Device) → r ≡ narrow (answerOf (signatureInto d (now (list .entry)) (length (now (signature .entry)))))) ⌝ }
+    ensures buffer { λ _. ⌜ ((d : Device) → now (signature .exit) ≡ bufferOf (signatureInto d (now (list .entry)) (length (now (signature .entry)))) (now (signature .entry))) ⌝ }
+{
+    let answer = plans_signature::signature_of(list, signature);
+    narrowed(answer)
+}
+
+// The plan of a signature for a device, as 98 words.
+#[no_mangle]
+pub extern "C" fn o32_make_plan(device: u32, signature: &[u8], plan: &mut [u32]) -> O32Answer
+    ensures answer { λ r. ⌜ r ≡ narrow (answerOf (makeInto (deviceOf device) (now (signature .entry)) (length (now (plan .entry))))) ⌝ }
+    ensures buffer { λ _. ⌜ now (plan .exit) ≡ bufferOf (makeInto (deviceOf device) (now (signature .entry)) (length (now (plan .entry)))) (now (plan .entry)) ⌝ }
+{
+    let answer = plans_words::make_plan(as_device(device), signature, plan);
+    narrowed(answer)
+}
+
+// The call image of a list by a plan of 98 words, for a device. Any words may be given: they are compared, and used for nothing else.
+#[no_mangle]
+pub extern "C" fn o32_fill(device: u32, plan: &[u32], list: &[u8], image: &mut [u8]) -> O32Answer
+    ensures answer { λ r. ⌜ r ≡ narrow (answerOf (fillInto (deviceOf device) (now (plan .entry)) (now (list .entry)) (length (now (image .entry))))) ⌝ }
+    ensures buffer { λ _. ⌜ now (image .exit) ≡ bufferOf (fillInto (deviceOf device) (now (plan .entry)) (now (list .entry)) (length (now (image .entry)))) (now (image .entry)) ⌝ }
+{
+    let answer = plans_words::fill(as_device(device), plan, list, image);
     narrowed(answer)
 }
 

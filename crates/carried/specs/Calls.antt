@@ -17,7 +17,7 @@ pub record Result : Type 0 where
   pub length : ℕ
   pub buffer : List ℕ
 
--- What the call has put into the buffer: its first bytes, as many as it answers.
+-- What the call has put into the buffer: its first bytes (of a buffer for a plan, words), as many as it answers.
 abbrev pub output : Result → List ℕ
 output r = take (r .length) (r .buffer)
 

@@ -40,7 +40,7 @@ fn run_write(device: Device, room: usize, line: &[u8], from: usize)
         return malformed();
     }
     let mut out = case_output::fresh_buffer();
-    let answer = o32_image::write(device, &list[..n], &mut out[..room]);
+    let answer = plans_writer::write_by_plan(device, &list[..n], &mut out[..room]);
     case_output::print_answer(answer, &out);
 }
 

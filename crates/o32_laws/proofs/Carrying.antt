@@ -125,7 +125,7 @@ none : (t : Bool) → _≡_ {A = ℕ} (cond t 0 0) 0
 none true = refl
 none false = refl
 
-register-by-kinds : (d : Device) (before : List ℕ) (k : ℕ) (after : List ℕ) (L : List Placed) (last : State)
+pub register-by-kinds : (d : Device) (before : List ℕ) (k : ℕ) (after : List ℕ) (L : List Placed) (last : State)
     → Walk (O32 d) (O32-laws d) start (before ++ (k ∷ after)) L last → register d (reach start before) (kindOf k) ≡ registerAfter d before k
 register-by-kinds NoFpu before k after L last w = none (is Float (kindOf k))
 register-by-kinds Fpu [] k after L last w = refl

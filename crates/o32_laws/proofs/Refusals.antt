@@ -53,7 +53,7 @@ module _ (d : Device) where
 
   -- ---- the writer
 
-  writer-refuses : (list : List ℕ) (room r place j : ℕ) → (writeInto (O32 d) list room ≡ refused r place j) ↔ WriterRefuses list room r place j
+  pub writer-refuses : (list : List ℕ) (room r place j : ℕ) → (writeInto (O32 d) list room ≡ refused r place j) ↔ WriterRefuses list room r place j
   writer-refuses list room r place j = ((λ e. there (write-refused (O32 d) list room r place j .0 e)), λ v. write-refused (O32 d) list room r place j .1 (back v))
     where
       there : A.WriteRefused (O32 d) list room r place j → WriterRefuses list room r place j

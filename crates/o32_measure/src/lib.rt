@@ -39,7 +39,7 @@ fn image_length(end: usize) -> usize
 }
 
 // The walk over the records of a list (bodies) or of a signature.
-fn measure(list: &[u8], bodies: bool) -> Measured
+pub fn measure(list: &[u8], bodies: bool) -> Measured
     ensures { λ r. ⌜ ((d : Device) → r ≡ measured (O32 d) (scan (O32 d) bodies (now (list .entry)))) ⌝ }
 {
     let mut st = o32_step::start();

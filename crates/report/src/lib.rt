@@ -14,7 +14,7 @@ pub fn report_text(list: &[u8], out: &mut [u8; 2376]) -> usize
     ensures { λ _. ⌜ now (out .exit) ≡ over (reportText (now (list .entry))) (now (out .entry)) ⌝ }
 {
     let mut image = [0u8; 1056];
-    let answer = o32_image::write(Device::Fpu, list, &mut image);
+    let answer = plans_writer::write_by_plan(Device::Fpu, list, &mut image);
     let number = answer.refusal;
     if number != 0 {
         return text::refusal_text(number, answer.place, answer.argument, out);

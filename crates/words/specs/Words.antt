@@ -49,7 +49,7 @@ promote e body = front e body ++ body
 abbrev pub body : ℕ → List ℕ → List ℕ
 body size bytes = drop (length bytes - size) bytes
 
--- Whether two lists have the same bytes.
+-- Whether two lists have the same numbers.
 abbrev pub same : List ℕ → List ℕ → Bool
 same [] [] = true
 same [] (y ∷ ys) = false

@@ -5,9 +5,10 @@ use std::hint::black_box;
 use o32::{raw, Device};
 
 use crate::memory;
+use crate::timing::Runner;
 
 /// Enough for every image, list and code.
-const ROOM: usize = 1100;
+pub const ROOM: usize = 1100;
 
 /// One call, with its inputs.
 pub enum Call {
@@ -36,7 +37,7 @@ impl Case {
             call,
             result: &[],
         };
-        let buffer = case.buffer();
+        let buffer = memory::buffer(ROOM);
         let length = case.run_model(buffer);
         case.result = memory::input(&buffer[..length as usize]);
         case
@@ -47,21 +48,26 @@ impl Case {
         self.result.len()
     }
 
-    /// A buffer for the results of one of the three.
-    pub fn buffer(&self) -> &'static mut [u8] {
-        memory::buffer(ROOM)
-    }
-
     /// A time says nothing unless the results agree.
     pub fn check(&self) {
         assert!(!self.result.is_empty(), "{}: refused", self.name);
-        let buffer = self.buffer();
+        let buffer = memory::buffer(ROOM);
         let length = self.run_o32(buffer);
         assert_eq!(&buffer[..length as usize], self.result, "{}", self.name);
     }
 
+    /// The library, the model and the copy, each with a buffer of its own.
+    pub fn runners(&self) -> [Runner<'_>; 3] {
+        let [o32, model, copy] = [(); 3].map(|()| memory::buffer(ROOM));
+        [
+            Box::new(move || self.run_o32(o32)),
+            Box::new(move || self.run_model(model)),
+            Box::new(move || self.run_copy(copy)),
+        ]
+    }
+
     #[inline]
-    pub fn run_o32(&self, buffer: &mut [u8]) -> u32 {
+    fn run_o32(&self, buffer: &mut [u8]) -> u32 {
         let buffer = black_box(buffer);
         match &self.call {
             Call::Write { list } => raw::write(Device::Fpu, black_box(list), buffer),
@@ -75,7 +81,7 @@ impl Case {
     }
 
     #[inline]
-    pub fn run_model(&self, buffer: &mut [u8]) -> u32 {
+    fn run_model(&self, buffer: &mut [u8]) -> u32 {
         let buffer = black_box(buffer);
         match &self.call {
             Call::Write { list } => model::write(model::Device::Fpu, black_box(list), buffer),
@@ -101,7 +107,7 @@ impl Case {
 
     /// Copies the finished result.
     #[inline]
-    pub fn run_copy(&self, buffer: &mut [u8]) -> u32 {
+    fn run_copy(&self, buffer: &mut [u8]) -> u32 {
         let buffer = black_box(buffer);
         let result = black_box(self.result);
         buffer[..result.len()].copy_from_slice(result);
@@ -127,7 +133,7 @@ fn structure(kind: u8, size: usize) -> Vec<u8> {
 }
 
 /// Lists by name, each with its signature.
-fn lists() -> Vec<(&'static str, Vec<u8>, Vec<u8>)> {
+pub fn lists() -> Vec<(&'static str, Vec<u8>, Vec<u8>)> {
     // Doubles and singles first, so that the floating registers are in use.
     let mixed: [&[u8]; 9] = [
         &[0x08, 0x3F, 0xF0, 0, 0, 0, 0, 0, 0],
@@ -169,7 +175,7 @@ const FULL_FRAME: raw::Request = raw::Request {
 };
 
 /// The image of a list that is accepted.
-fn image_of(list: &[u8]) -> Vec<u8> {
+pub fn image_of(list: &[u8]) -> Vec<u8> {
     let mut image = vec![0; ROOM];
     let length = model::write(model::Device::Fpu, list, &mut image).length;
     image.truncate(length as usize);

@@ -3,9 +3,7 @@
 use std::hint::black_box;
 use std::time::{Duration, Instant};
 
-use crate::cases::Case;
-
-/// Rounds of each case; their times make the spread.
+/// Rounds of each row; their times make the spread.
 const ROUNDS: usize = 301;
 
 /// A batch is as many calls as last this long, far beyond a timer's tick.
@@ -31,55 +29,52 @@ impl Spread {
     }
 }
 
-/// One of the three that are timed on a case.
-type Runner = fn(&Case, &mut [u8]) -> u32;
+/// One of the three that are timed in a row: a call with its inputs and a buffer
+/// for its results. It gives the length of the result.
+pub type Runner<'a> = Box<dyn FnMut() -> u32 + 'a>;
 
-const RUNNERS: [Runner; 3] = [Case::run_o32, Case::run_model, Case::run_copy];
-
-/// Times the library, the model and the copy, in this order.
-pub fn measure(case: &Case) -> [Spread; 3] {
-    let mut contestants = RUNNERS.map(|runner| Contestant::new(case, runner));
+/// Times all three, in their order.
+pub fn measure(runners: [Runner<'_>; 3]) -> [Spread; 3] {
+    let mut contestants = runners.map(Contestant::new);
     // They take turns, so that a slow moment of the machine strikes them all.
     for _ in 0..ROUNDS {
         for contestant in &mut contestants {
-            contestant.run_round(case);
+            contestant.run_round();
         }
     }
     contestants.map(|contestant| Spread::of(contestant.times))
 }
 
-struct Contestant {
-    runner: Runner,
-    buffer: &'static mut [u8],
+struct Contestant<'a> {
+    runner: Runner<'a>,
     calls: u32,
     times: Vec<f64>,
 }
 
-impl Contestant {
+impl<'a> Contestant<'a> {
     /// Finds the size of a batch, and warms up by doing so.
-    fn new(case: &Case, runner: Runner) -> Self {
+    fn new(runner: Runner<'a>) -> Self {
         let mut contestant = Contestant {
             runner,
-            buffer: case.buffer(),
             calls: 1,
             times: Vec::with_capacity(ROUNDS),
         };
-        while contestant.time_batch(case) < BATCH {
+        while contestant.time_batch() < BATCH {
             contestant.calls *= 2;
         }
         contestant
     }
 
-    fn run_round(&mut self, case: &Case) {
-        let time = self.time_batch(case);
+    fn run_round(&mut self) {
+        let time = self.time_batch();
         self.times
             .push(time.as_nanos() as f64 / f64::from(self.calls));
     }
 
-    fn time_batch(&mut self, case: &Case) -> Duration {
+    fn time_batch(&mut self) -> Duration {
         let start = Instant::now();
         for _ in 0..self.calls {
-            black_box((self.runner)(case, self.buffer));
+            black_box((self.runner)());
         }
         start.elapsed()
     }

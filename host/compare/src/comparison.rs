@@ -1,6 +1,7 @@
 //! One comparison of the library with the model, and the count of all.
 
-use std::hint::black_box;
+mod plans;
+
 use std::ops::RangeInclusive;
 
 use compare::rng::Rng;
@@ -8,9 +9,9 @@ use model::{Answer, Layout, Structure};
 use o32::{raw, Device, LIST_MAX};
 
 use crate::coverage::{Coverage, Operation};
-use crate::guarded::{Guarded, Noise};
+use crate::guarded::{Guarded, Input, Noise};
 use crate::readers::{bodies_behind_marker, Inputs, Reader};
-use crate::report::{answer_text, answers, difference, hex, hex_beginning};
+use crate::report::{answer_text, answers, change, difference, hex, hex_beginning};
 
 /// Failing inputs that are shown of each group; the rest is only counted.
 const REPORTS_OF_A_GROUP: usize = 2;
@@ -114,6 +115,9 @@ impl Comparison {
             }
         }
         self.start_group_without_device("coverage");
+        for answer in self.coverage.missing_signatures() {
+            self.fail(|| format!("signature: no input is answered with {answer}"));
+        }
         for answer in self.coverage.missing_descriptions() {
             self.fail(|| format!("describe: no input is {answer}"));
         }
@@ -121,24 +125,25 @@ impl Comparison {
 
     /// Compares the writers on a list and an image buffer of `room` bytes.
     pub fn write(&mut self, list: &[u8], room: usize) {
-        let mut input = self.noise.around(list);
-        let input_before = input.clone();
+        let mut input = Input::new(self.noise.around(list));
         let mut output = self.noise.buffer(room);
         let mut expected_output = output.clone();
 
-        let answer = answer_of(raw::write(self.device, input.bytes(), output.bytes_mut()));
-        // The compiler must not take it for granted that inputs stay.
-        black_box(&mut input);
+        let answer = answer_of(raw::write(
+            self.device,
+            input.now.bytes(),
+            output.bytes_mut(),
+        ));
         let expected = model::write(model_device(self.device), list, expected_output.bytes_mut());
 
-        let agrees = answer == expected && output == expected_output && input == input_before;
+        let agrees = answer == expected && output == expected_output && input.unchanged();
         self.count(Operation::Write, expected.refusal, agrees, || {
             [
                 format!("list {}", hex(list)),
                 format!("image buffer of {room} bytes"),
                 answers(&expected, &answer),
                 difference("image buffer", &expected_output, &output),
-                difference("list", &input_before, &input),
+                change("list", &input),
             ]
             .join("\n  ")
         });
@@ -278,21 +283,19 @@ impl Comparison {
 
     /// Compares what is answered to a description.
     pub fn describe(&mut self, description: &[u8]) {
-        let mut input = self.noise.around(description);
-        let input_before = input.clone();
-        let structure = structure_of(raw::describe(input.bytes()));
-        // The compiler must not take it for granted that inputs stay.
-        black_box(&mut input);
+        let mut input = Input::new(self.noise.around(description));
+        let structure = structure_of(raw::describe(input.now.bytes()));
         let expected = model::describe(description);
 
         self.coverage
             .count_description(model::cause_of_refusal(description));
-        self.judge(structure == expected && input == input_before, || {
+        let agrees = structure == expected && input.unchanged();
+        self.judge(agrees, || {
             [
                 format!("description {}", hex_beginning(description)),
                 format!("expected {expected:?}"),
                 format!("answered {structure:?}"),
-                difference("description", &input_before, &input),
+                change("description", &input),
             ]
             .join("\n  ")
         });

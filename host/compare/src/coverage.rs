@@ -7,15 +7,20 @@ use o32::Device;
 
 use crate::comparison::DEVICES;
 
-/// Success and the refusals 1 to 15.
-const ANSWERS: usize = 16;
+/// Success and the refusals 1 to 20.
+const ANSWERS: usize = 21;
 
 /// The refusal that only a device without a floating-point unit gives.
 const PAIRS_WITHOUT_UNIT: usize = 14;
 
+/// The answers to a list whose signature is asked for.
+const SIGNATURE_ANSWERS: [usize; 7] = [0, 1, 2, 3, 4, 5, 7];
+
 /// What is compared for each device.
 #[derive(Clone, Copy, Debug, PartialEq, Eq)]
 pub enum Operation {
+    MakePlan,
+    Fill,
     Write,
     Read,
     Walk,
@@ -25,7 +30,9 @@ pub enum Operation {
 }
 
 impl Operation {
-    pub const ALL: [Operation; 5] = [
+    pub const ALL: [Operation; 7] = [
+        Operation::MakePlan,
+        Operation::Fill,
         Operation::Write,
         Operation::Read,
         Operation::Walk,
@@ -36,6 +43,8 @@ impl Operation {
     /// The answers that it has on a device, success being 0.
     fn answers(self, device: Device) -> impl Iterator<Item = usize> {
         let answers: &[usize] = match self {
+            Operation::MakePlan => &[0, 1, 2, 3, 5, 7],
+            Operation::Fill => &[0, 1, 2, 3, 4, 5, 20, 7],
             Operation::Write => &[0, 1, 2, 3, 4, 5, 7],
             Operation::Read => &[0, 1, 2, 3, 5, 6, 7, 8],
             Operation::Walk => &[0, 1, 2, 3, 5, 15, 6, 7, 8],
@@ -49,43 +58,68 @@ impl Operation {
     }
 }
 
+/// How often each answer was expected of one operation.
+#[derive(Clone, Copy, Default)]
+struct Counts([u64; ANSWERS]);
+
+impl Counts {
+    fn count(&mut self, refusal: u32) {
+        self.0[refusal as usize] += 1;
+    }
+
+    /// Those of the answers that no input has led to.
+    fn missing(&self, answers: impl Iterator<Item = usize>) -> Vec<usize> {
+        answers.filter(|&answer| self.0[answer] == 0).collect()
+    }
+
+    fn text(&self, answers: impl Iterator<Item = usize>) -> String {
+        answers
+            .map(|answer| match (answer, self.0[answer]) {
+                (0, count) => format!("{count} accepted"),
+                (_, count) => format!("{count} refused {answer}"),
+            })
+            .collect::<Vec<_>>()
+            .join(", ")
+    }
+}
+
 /// How often the model gave each answer.
 #[derive(Default)]
 pub struct Coverage {
-    seen: [[[u64; ANSWERS]; DEVICES.len()]; Operation::ALL.len()],
+    seen: [[Counts; DEVICES.len()]; Operation::ALL.len()],
+    signatures: Counts,
     /// Of descriptions: success, then each cause of a refusal.
     descriptions: [u64; 1 + Cause::ALL.len()],
 }
 
 impl Coverage {
     pub fn count(&mut self, operation: Operation, device: Device, refusal: u32) {
-        self.seen[operation as usize][device as usize][refusal as usize] += 1;
-    }
-
-    fn seen(&self, operation: Operation, device: Device, answer: usize) -> u64 {
-        self.seen[operation as usize][device as usize][answer]
+        self.seen[operation as usize][device as usize].count(refusal);
     }
 
     /// The answers of an operation that no input has led to.
     pub fn missing(&self, operation: Operation, device: Device) -> Vec<usize> {
-        operation
-            .answers(device)
-            .filter(|&answer| self.seen(operation, device, answer) == 0)
-            .collect()
+        self.seen[operation as usize][device as usize].missing(operation.answers(device))
     }
 
     /// How often each answer of an operation was expected.
     pub fn text(&self, operation: Operation, device: Device) -> String {
-        operation
-            .answers(device)
-            .map(
-                |answer| match (answer, self.seen(operation, device, answer)) {
-                    (0, count) => format!("{count} accepted"),
-                    (_, count) => format!("{count} refused {answer}"),
-                },
-            )
-            .collect::<Vec<_>>()
-            .join(", ")
+        self.seen[operation as usize][device as usize].text(operation.answers(device))
+    }
+
+    /// Counts a list whose signature is asked for.
+    pub fn count_signature(&mut self, refusal: u32) {
+        self.signatures.count(refusal);
+    }
+
+    /// The answers to such a list that no input has led to.
+    pub fn missing_signatures(&self) -> Vec<usize> {
+        self.signatures.missing(SIGNATURE_ANSWERS.into_iter())
+    }
+
+    /// How often each answer to such a list was expected.
+    pub fn signatures_text(&self) -> String {
+        self.signatures.text(SIGNATURE_ANSWERS.into_iter())
     }
 
     /// Counts a description that is refused for a cause, or accepted.

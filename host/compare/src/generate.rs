@@ -1,10 +1,11 @@
-//! Lists, signatures and images to compare on.
+//! Lists, signatures, plans and images to compare on.
 //!
 //! The model serves here only to choose inputs: how long a body is, whether one
-//! more kind would be refused, and which image bytes carry something.
+//! more kind would be refused, which plan a signature has, and which image bytes
+//! carry something.
 
 use compare::rng::Rng;
-use o32::Device;
+use o32::{Device, PLAN_WORDS, SIGNATURE_MAX};
 
 use crate::comparison::model_device;
 
@@ -194,7 +195,7 @@ fn fill_up(rng: &mut Rng, signature: &mut Vec<u8>) {
 }
 
 /// Puts a marker where one may stand; the earlier places are liked most.
-fn insert_marker(rng: &mut Rng, signature: &mut Vec<u8>) {
+pub fn insert_marker(rng: &mut Rng, signature: &mut Vec<u8>) {
     let places = signature.len() + 1;
     let limit = if rng.percent(60) {
         places.min(4)
@@ -224,7 +225,77 @@ pub fn list_of(rng: &mut Rng, signature: &[u8]) -> Vec<u8> {
     list
 }
 
-/// The image of a list that is accepted.
+/// A list behind which one to four more records stand, though it is as long as
+/// it may be or nearly. Now and then the end is cut off.
+pub fn list_beyond_the_limits(rng: &mut Rng) -> Vec<u8> {
+    let shape = rng.pick(&Shape::NEAR_LIMITS);
+    let mut signature = accepted_signature(rng, shape);
+    for _ in 0..rng.within(1..=4) {
+        signature.push(known_kind(rng));
+    }
+    let mut list = list_of(rng, &signature);
+    if rng.percent(30) {
+        let cut = rng.below(12).min(list.len());
+        list.truncate(list.len() - cut);
+    }
+    list
+}
+
+/// A signature that nothing refuses, and a list of it that was damaged.
+pub fn damaged_list(rng: &mut Rng) -> (Vec<u8>, Vec<u8>) {
+    let shape = Shape::random(rng);
+    let signature = accepted_signature(rng, shape);
+    let mut list = list_of(rng, &signature);
+    for _ in 0..rng.within(1..=2) {
+        damage(rng, &mut list, &kind_offsets(&signature));
+    }
+    (signature, list)
+}
+
+/// Kind bytes and noise end to end, as no writer of lists would make them.
+pub fn list_of_noise(rng: &mut Rng) -> Vec<u8> {
+    let length = rng.within(0..=40);
+    (0..length)
+        .map(|_| {
+            if rng.percent(50) {
+                known_kind(rng)
+            } else {
+                rng.byte()
+            }
+        })
+        .collect()
+}
+
+/// A list with records put behind it until it has `length` bytes, the last one
+/// perhaps cut off.
+pub fn lengthened(rng: &mut Rng, mut list: Vec<u8>, length: usize) -> Vec<u8> {
+    while list.len() < length {
+        let kind = known_kind(rng);
+        list.extend(list_of(rng, &[kind]));
+    }
+    list.truncate(length);
+    list
+}
+
+/// The plan of a signature; zeros if the signature is refused.
+pub fn plan_of(device: Device, signature: &[u8]) -> Vec<u32> {
+    let mut plan = vec![0; PLAN_WORDS];
+    model::make_plan(model_device(device), signature, &mut plan);
+    plan
+}
+
+/// The plan of a list's signature; zeros if the list is refused.
+pub fn plan_of_list(device: Device, list: &[u8]) -> Vec<u32> {
+    let mut signature = [0; SIGNATURE_MAX];
+    let answer = model::signature(list, &mut signature);
+    if answer.refusal == 0 {
+        plan_of(device, &signature[..answer.length as usize])
+    } else {
+        vec![0; PLAN_WORDS]
+    }
+}
+
+/// The image of a list; empty if the list is refused.
 pub fn image_of(device: Device, list: &[u8]) -> Vec<u8> {
     let mut image = vec![0; 1056];
     let length = model::write(model_device(device), list, &mut image).length;

@@ -4,11 +4,12 @@ use compare::rng::Rng;
 
 use crate::comparison::Comparison;
 use crate::generate::{
-    accepted_signature, damage, image_of, kind_offsets, known_kind, list_of, room_near, Shape,
+    accepted_signature, damaged_list, image_of, known_kind, lengthened, list_beyond_the_limits,
+    list_of, list_of_noise, room_near, Shape,
 };
 
 /// The length of the smallest image.
-const SMALLEST: usize = 48;
+pub const SMALLEST: usize = 48;
 
 /// The first length that sixteen bits can't hold.
 pub const LONG: usize = 1 << 16;
@@ -59,19 +60,9 @@ pub fn full(comparison: &mut Comparison, rng: &mut Rng) {
     accepted(comparison, rng, Shape::Full, 20_000);
 }
 
-/// One more record behind lists that are as long as they may be, or nearly.
 pub fn beyond_the_limits(comparison: &mut Comparison, rng: &mut Rng) {
     for _ in 0..30_000 {
-        let shape = rng.pick(&Shape::NEAR_LIMITS);
-        let mut signature = accepted_signature(rng, shape);
-        for _ in 0..rng.within(1..=4) {
-            signature.push(known_kind(rng));
-        }
-        let mut list = list_of(rng, &signature);
-        if rng.percent(30) {
-            let cut = rng.below(12).min(list.len());
-            list.truncate(list.len() - cut);
-        }
+        let list = list_beyond_the_limits(rng);
         let room = rng.pick(&[0, SMALLEST, 160, 1055, 1056, 1057]);
         comparison.write(&list, room);
     }
@@ -79,31 +70,15 @@ pub fn beyond_the_limits(comparison: &mut Comparison, rng: &mut Rng) {
 
 pub fn damaged(comparison: &mut Comparison, rng: &mut Rng) {
     for _ in 0..200_000 {
-        let shape = Shape::random(rng);
-        let signature = accepted_signature(rng, shape);
-        let mut list = list_of(rng, &signature);
-        for _ in 0..rng.within(1..=2) {
-            damage(rng, &mut list, &kind_offsets(&signature));
-        }
+        let (_, list) = damaged_list(rng);
         let room = rng.pick(&[1056, 1056, 1060, SMALLEST, 64, 0]);
         comparison.write(&list, room);
     }
 }
 
-/// Kind bytes and noise end to end, as no writer of lists would make them.
 pub fn of_noise(comparison: &mut Comparison, rng: &mut Rng) {
     for _ in 0..100_000 {
-        let length = rng.within(0..=40);
-        let list: Vec<u8> = (0..length)
-            .map(|_| {
-                if rng.percent(50) {
-                    known_kind(rng)
-                } else {
-                    rng.byte()
-                }
-            })
-            .collect();
-        comparison.write(&list, 1056);
+        comparison.write(&list_of_noise(rng), 1056);
     }
 }
 
@@ -127,15 +102,15 @@ pub fn long(comparison: &mut Comparison, rng: &mut Rng) {
         let list = list_of(rng, &signature);
         comparison.write(&list, LONG + rng.below(2000));
 
-        let length = rng.pick(&[2047, 2048, 2049, LONG - 1, LONG, LONG + list.len()]);
-        let mut long = list;
-        while long.len() < length {
-            let kind = known_kind(rng);
-            long.extend(list_of(rng, &[kind]));
-        }
-        long.truncate(length);
-        comparison.write(&long, 1056);
+        let length = rng.pick(&long_lengths(&list));
+        comparison.write(&lengthened(rng, list, length), 1056);
     }
+}
+
+/// Lengths of lists longer than any that is accepted. The last differs from that
+/// of an accepted list by what sixteen bits can't hold.
+pub fn long_lengths(list: &[u8]) -> [usize; 6] {
+    [2047, 2048, 2049, LONG - 1, LONG, LONG + list.len()]
 }
 
 /// Buffer lengths to try for a result of `length` bytes.

@@ -2,9 +2,9 @@
 //!
 //! Every comparison covers all parts of the answer, the whole output buffer,
 //! the canaries around it and around the inputs, and the inputs themselves.
-//! Every group runs for both devices, but for those about descriptions, which no
-//! device matters to. The inputs follow from a seed: `compare [SEED]`, decimal
-//! or `0x...`.
+//! Every group runs for both devices, but for those about the signatures of
+//! lists and about descriptions, which no device matters to. The inputs follow
+//! from a seed: `compare [SEED]`, decimal or `0x...`.
 
 mod comparison;
 mod coverage;
@@ -14,8 +14,10 @@ mod generate;
 mod guarded;
 mod images;
 mod lists;
+mod plans;
 mod readers;
 mod report;
+mod signatures;
 mod walks;
 
 use std::env;
@@ -47,6 +49,56 @@ const WRITING: [Group; 11] = [
     ("write, noise", lists::of_noise),
     ("write, buffer lengths", lists::buffers),
     ("write, long lists and buffers", lists::long),
+];
+
+const PLANNING: [Group; 7] = [
+    (
+        "make_plan, signatures of 0, 1 and 2 kinds",
+        signatures::plans_of_few_kinds,
+    ),
+    (
+        "make_plan, signatures of 3 kinds",
+        signatures::plans_of_three_kinds,
+    ),
+    (
+        "make_plan, accepted signatures",
+        signatures::plans_of_accepted,
+    ),
+    (
+        "make_plan, damaged signatures",
+        signatures::plans_of_damaged,
+    ),
+    (
+        "make_plan, signatures beyond the limits",
+        signatures::plans_beyond_the_limits,
+    ),
+    ("make_plan, buffer lengths", signatures::plan_buffers),
+    (
+        "make_plan, long signatures and buffers",
+        signatures::plans_of_long,
+    ),
+];
+
+const FILLING: [Group; 13] = [
+    ("fill, lists of 0, 1 and 2 kinds", plans::of_few_kinds),
+    ("fill, accepted lists", plans::accepted),
+    ("fill, damaged lists", plans::damaged_lists),
+    ("fill, lists beyond the limits", plans::beyond_the_limits),
+    ("fill, noise", plans::of_noise),
+    ("fill, buffer lengths", plans::buffers),
+    ("fill, long lists, plans and buffers", plans::long),
+    ("fill, plans with one number changed", plans::changed),
+    (
+        "fill, plans of other signatures",
+        plans::of_other_signatures,
+    ),
+    (
+        "fill, plans of the other device",
+        plans::of_the_other_device,
+    ),
+    ("fill, wrong numbers of words", plans::of_other_lengths),
+    ("fill, random words", plans::of_random_words),
+    ("fill, as the library writes", plans::as_written),
 ];
 
 const READING: [ReaderGroup; 10] = [
@@ -82,6 +134,30 @@ const FRAMES: [Group; 5] = [
 ];
 
 /// Groups that run once.
+const SIGNATURES: [Group; 8] = [
+    (
+        "signature, lists of 0, 1 and 2 bytes",
+        signatures::of_shortest_lists,
+    ),
+    (
+        "signature, lists of 1 and 2 kinds",
+        signatures::of_few_kinds,
+    ),
+    ("signature, accepted lists", signatures::of_accepted_lists),
+    (
+        "signature, lists beyond the limits",
+        signatures::of_lists_beyond_the_limits,
+    ),
+    ("signature, damaged lists", signatures::of_damaged_lists),
+    ("signature, noise", signatures::of_noise),
+    ("signature, buffer lengths", signatures::buffers),
+    (
+        "signature, long lists and buffers",
+        signatures::of_long_lists,
+    ),
+];
+
+/// Groups that run once too.
 const DESCRIPTIONS: [Group; 13] = [
     (
         "describe, descriptions of 0, 1 and 2 bytes",
@@ -140,7 +216,7 @@ fn main() -> ExitCode {
 }
 
 fn run_groups(comparison: &mut Comparison, seed: u64) {
-    for (name, group) in WRITING {
+    for (name, group) in WRITING.into_iter().chain(PLANNING).chain(FILLING) {
         run_group(comparison, seed, name, group);
     }
     for reader in Reader::BOTH {
@@ -154,7 +230,7 @@ fn run_groups(comparison: &mut Comparison, seed: u64) {
     for (name, group) in READING_ALONE.into_iter().chain(FRAMES) {
         run_group(comparison, seed, name, group);
     }
-    for (name, group) in DESCRIPTIONS {
+    for (name, group) in SIGNATURES.into_iter().chain(DESCRIPTIONS) {
         run_group_once(comparison, seed, name, group);
     }
 }
@@ -192,6 +268,10 @@ fn print_answers(coverage: &Coverage) {
             println!("answers compared, {device:?}, {operation:?}: {answers}");
         }
     }
+    println!(
+        "answers compared, signature: {}",
+        coverage.signatures_text()
+    );
     println!(
         "answers compared, describe: {}",
         coverage.descriptions_text()

@@ -1,7 +1,5 @@
 //! The two functions that read an image.
 
-use std::hint::black_box;
-
 use compare::rng::Rng;
 use model::Answer;
 use o32::{raw, Device};
@@ -9,8 +7,8 @@ use o32::{raw, Device};
 use crate::comparison::{answer_of, model_device};
 use crate::coverage::Operation;
 use crate::generate::{accepted_signature, body_length, variadic_signature, Shape, MARKER};
-use crate::guarded::{Guarded, Noise};
-use crate::report::{difference, hex};
+use crate::guarded::{Guarded, Input, Noise};
+use crate::report::{change, hex};
 
 /// Which of the two is called.
 #[derive(Clone, Copy, Debug, PartialEq, Eq)]
@@ -113,47 +111,38 @@ pub fn bodies_behind_marker(signature: &[u8], list: &[u8]) -> Option<Vec<u8>> {
 
 /// A signature and an image for the library, and how they were before.
 pub struct Inputs {
-    signature: Guarded,
-    signature_before: Guarded,
-    image: Guarded,
-    image_before: Guarded,
+    signature: Input,
+    image: Input,
 }
 
 impl Inputs {
     pub fn new(noise: &mut Noise, signature: &[u8], image: &[u8]) -> Self {
-        let signature = noise.around(signature);
-        let image = noise.around(image);
         Inputs {
-            signature_before: signature.clone(),
-            signature,
-            image_before: image.clone(),
-            image,
+            signature: Input::new(noise.around(signature)),
+            image: Input::new(noise.around(image)),
         }
     }
 
     /// Lets the library read the image.
-    pub fn read(&mut self, reader: Reader, device: Device, output: &mut Guarded) -> Answer {
-        let answer = reader.library(
+    pub fn read(&self, reader: Reader, device: Device, output: &mut Guarded) -> Answer {
+        reader.library(
             device,
-            self.signature.bytes(),
-            self.image.bytes(),
+            self.signature.now.bytes(),
+            self.image.now.bytes(),
             output.bytes_mut(),
-        );
-        // The compiler must not take it for granted that inputs stay.
-        black_box((&mut self.signature, &mut self.image));
-        answer
+        )
     }
 
-    pub fn unchanged(&self) -> bool {
-        self.signature == self.signature_before && self.image == self.image_before
+    pub fn unchanged(&mut self) -> bool {
+        self.signature.unchanged() && self.image.unchanged()
     }
 
     pub fn text(&self) -> String {
         [
-            format!("signature {}", hex(self.signature_before.bytes())),
-            format!("image {}", hex(self.image_before.bytes())),
-            difference("signature", &self.signature_before, &self.signature),
-            difference("image", &self.image_before, &self.image),
+            format!("signature {}", hex(self.signature.before.bytes())),
+            format!("image {}", hex(self.image.before.bytes())),
+            change("signature", &self.signature),
+            change("image", &self.image),
         ]
         .join("\n  ")
     }

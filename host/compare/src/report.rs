@@ -1,8 +1,10 @@
 //! What is said of a comparison that failed.
 
+use std::fmt::UpperHex;
+
 use model::Answer;
 
-use crate::guarded::Guarded;
+use crate::guarded::{Guarded, Input};
 
 /// Bytes that are shown of a long input; the seed gives all of them again.
 const BEGINNING: usize = 1_000;
@@ -22,16 +24,36 @@ pub fn answers(expected: &Answer, answer: &Answer) -> String {
     )
 }
 
-pub fn difference(name: &str, expected: &Guarded, found: &Guarded) -> String {
+pub fn difference<T>(name: &str, expected: &Guarded<T>, found: &Guarded<T>) -> String
+where
+    T: Copy + PartialEq + UpperHex,
+{
     match expected.first_difference(found) {
         None => format!("{name} as expected"),
         Some(at) => format!(
-            "{name} of {} bytes differs first at {at}: expected {:02X}, found {:02X}",
-            expected.bytes().len(),
-            expected.byte_at(at),
-            found.byte_at(at)
+            "{name} of length {} differs first at {at}: expected {:02X}, found {:02X}",
+            expected.length(),
+            expected.at(at),
+            found.at(at)
         ),
     }
+}
+
+/// What the library has changed in an input.
+pub fn change<T>(name: &str, input: &Input<T>) -> String
+where
+    T: Copy + PartialEq + UpperHex,
+{
+    difference(name, &input.before, &input.now)
+}
+
+/// Words with spaces between them.
+pub fn words_text(words: &[u32]) -> String {
+    if words.is_empty() {
+        return String::from("(empty)");
+    }
+    let words: Vec<String> = words.iter().map(|word| format!("{word:X}")).collect();
+    words.join(" ")
 }
 
 pub fn hex(bytes: &[u8]) -> String {

@@ -1,7 +1,7 @@
 //! The writer and the reader of call images.
 
 use crate::kind::{Kind, Promotion};
-use crate::records::{Plan, Record};
+use crate::records::{Record, Records};
 use crate::{Answer, Device, Refusal};
 
 /// Turns an argument list into a call image at the start of `image`.
@@ -15,22 +15,31 @@ pub fn read(device: Device, signature: &[u8], image: &[u8], list: &mut [u8]) -> 
 }
 
 fn write_image(device: Device, list: &[u8], image: &mut [u8]) -> Result<usize, Refusal> {
-    let plan = Plan::of_list(device, list)?;
-    let length = plan.image_length();
+    put_image(&Records::of_list(device, list)?, list, image)
+}
+
+/// Writes the image of a list that has these records.
+#[inline]
+pub(crate) fn put_image(
+    records: &Records,
+    list: &[u8],
+    image: &mut [u8],
+) -> Result<usize, Refusal> {
+    let length = records.image_length();
     let image = image
         .get_mut(..length)
         .ok_or(Refusal::nowhere(Refusal::SHORT_OUTPUT))?;
 
     // What carries nothing is zero: holes, fill, homes and unused registers.
     image.fill(0);
-    for record in plan.records() {
+    for record in records.as_slice() {
         let body = &list[record.place + 1..][..record.kind.body()];
         match record.kind {
             Kind::Marker => {}
             Kind::Short(promotion) => {
-                record.placement.put(&promoted(promotion, body), image);
+                record.location.put(&promoted(promotion, body), image);
             }
-            _ => record.placement.put(body, image),
+            _ => record.location.put(body, image),
         }
     }
     Ok(length)
@@ -42,10 +51,10 @@ fn read_image(
     image: &[u8],
     list: &mut [u8],
 ) -> Result<usize, Refusal> {
-    let plan = Plan::of_signature(device, signature)?;
-    let length = plan.lengths().list;
-    let mut rest = checked_output(&plan, image, length, list)?;
-    for record in plan.records() {
+    let records = Records::of_signature(device, signature)?;
+    let length = records.lengths().list;
+    let mut rest = checked_output(&records, image, length, list)?;
+    for record in records.as_slice() {
         let (head, tail) = rest.split_at_mut(1 + record.kind.body());
         let (kind_byte, body) = head.split_at_mut(1);
         kind_byte[0] = signature[record.place];
@@ -58,18 +67,18 @@ fn read_image(
 /// The first `length` bytes of `output`, unless the image or the output is
 /// refused. Nothing may be written before every word has been looked at.
 pub(crate) fn checked_output<'a>(
-    plan: &Plan,
+    records: &Records,
     image: &[u8],
     length: usize,
     output: &'a mut [u8],
 ) -> Result<&'a mut [u8], Refusal> {
-    if image.len() != plan.image_length() {
+    if image.len() != records.image_length() {
         return Err(Refusal::nowhere(Refusal::IMAGE_LENGTH));
     }
     let output = output
         .get_mut(..length)
         .ok_or(Refusal::nowhere(Refusal::SHORT_OUTPUT))?;
-    for record in plan.records() {
+    for record in records.as_slice() {
         check_promotion(record, image)?;
     }
     Ok(output)
@@ -96,7 +105,7 @@ fn take_body(record: &Record, image: &[u8], body: &mut [u8]) {
             let word = word_of(record, image).to_be_bytes();
             body.copy_from_slice(&word[word.len() - body.len()..]);
         }
-        _ => record.placement.get(image, body),
+        _ => record.location.get(image, body),
     }
 }
 
@@ -111,6 +120,6 @@ fn promoted(promotion: Promotion, body: &[u8]) -> [u8; 4] {
 /// The word of an argument of four bytes.
 fn word_of(record: &Record, image: &[u8]) -> u32 {
     let mut word = [0; 4];
-    record.placement.get(image, &mut word);
+    record.location.get(image, &mut word);
     u32::from_be_bytes(word)
 }

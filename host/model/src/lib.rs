@@ -1,7 +1,7 @@
 //! Call images and frames of the MIPS O32 convention in ordinary Rust.
 //!
-//! This is the yardstick for the proved library: the same seven operations
-//! with the same answers, written from the rules alone. Every operation checks
+//! This is the yardstick for the proved library: the same operations with
+//! the same answers, written from the rules alone. Every operation checks
 //! first and writes into the caller's buffer only when nothing refuses.
 
 mod description;
@@ -9,15 +9,17 @@ mod frame;
 mod image;
 mod kind;
 mod placement;
+mod plan;
 mod records;
 mod walker;
 
 pub use description::{cause_of_refusal, describe, Cause, Structure};
 pub use frame::{epilogue, frame, prologue, Layout, Request};
 pub use image::{read, write};
+pub use plan::{fill, make_plan, signature, Placement, Plan};
 pub use walker::walk;
 
-use records::Plan;
+use records::Records;
 
 /// The board that a call or a frame is for.
 #[derive(Clone, Copy, Debug, PartialEq, Eq)]
@@ -28,7 +30,7 @@ pub enum Device {
     NoFpu,
 }
 
-/// What a writer, a reader, the walker or a code writer answers.
+/// What every operation answers that writes into a buffer.
 #[derive(Clone, Copy, Debug, Default, PartialEq, Eq)]
 pub struct Answer {
     /// 0 on success, otherwise the number of the refusal.
@@ -37,7 +39,7 @@ pub struct Answer {
     pub place: u32,
     /// Number of the refused argument, from 1; 0 where the refusal has none.
     pub argument: u32,
-    /// Bytes written, 0 on a refusal.
+    /// Bytes written, or words where a plan is made; 0 on a refusal.
     pub length: u32,
 }
 
@@ -83,6 +85,7 @@ impl Refusal {
     pub(crate) const SHORT_CODE: u32 = 13;
     pub(crate) const PAIRS_WITHOUT_UNIT: u32 = 14;
     pub(crate) const NO_MARKER: u32 = 15;
+    pub(crate) const PLAN_DIFFERS: u32 = 20;
 
     pub(crate) fn at(number: u32, place: usize, argument: u32) -> Self {
         Refusal {
@@ -109,7 +112,7 @@ pub struct Lengths {
 /// The lengths for a signature, if none of its kinds is refused.
 pub fn lengths(signature: &[u8]) -> Option<Lengths> {
     // Any device will do: offsets don't depend on it, nor do refusals here.
-    Plan::of_signature(Device::Fpu, signature)
+    Records::of_signature(Device::Fpu, signature)
         .ok()
-        .map(|plan| plan.lengths())
+        .map(|records| records.lengths())
 }

@@ -18,22 +18,25 @@ const FLOATING_PAIRS: [usize; 2] = [16, 24];
 /// Where the last argument may end.
 const END_LIMIT: usize = 1024;
 
-/// The image bytes that carry an argument.
+/// An argument's offset, and the image bytes that carry it.
 #[derive(Clone, Copy, Debug, Default, PartialEq, Eq)]
-pub(crate) struct Placement {
+pub(crate) struct Location {
+    /// Offset in the argument area, also of a float that isn't carried there.
+    offset: usize,
     /// Image offset of the argument's first byte.
     start: usize,
     /// How many bytes lie there; the others begin at `rest`.
     together: usize,
 }
 
-impl Placement {
+impl Location {
     /// In a floating register or pair. The even register of a pair holds the
     /// low half of a double and the odd one the high half, whatever the byte
     /// order (request (i)), so a double begins in the odd register. A single
     /// is one word and has the even register.
-    fn floating(pair: usize, size: usize) -> Self {
-        Placement {
+    fn floating(pair: usize, offset: usize, size: usize) -> Self {
+        Location {
+            offset,
             start: pair + size - 4,
             together: 4,
         }
@@ -43,12 +46,14 @@ impl Placement {
     /// registers.
     fn at_offset(offset: usize, size: usize) -> Self {
         if offset < GENERAL_BYTES {
-            Placement {
+            Location {
+                offset,
                 start: offset,
                 together: size.min(GENERAL_BYTES - offset),
             }
         } else {
-            Placement {
+            Location {
+                offset,
                 start: REGISTER_BYTES + offset,
                 together: size,
             }
@@ -64,6 +69,19 @@ impl Placement {
         } else {
             STACK_START
         }
+    }
+
+    pub(crate) fn offset(&self) -> usize {
+        self.offset
+    }
+
+    /// Number of the floating register that carries the argument, or of the
+    /// even one of its pair; 0 for an argument that goes by its offset.
+    pub(crate) fn floating_register(&self) -> u32 {
+        FLOATING_PAIRS
+            .iter()
+            .position(|&pair| (pair..pair + 8).contains(&self.start))
+            .map_or(0, |pair| 12 + 2 * pair as u32)
     }
 
     /// Puts the argument's bytes where the image carries them.
@@ -128,23 +146,23 @@ impl ArgumentArea {
 
     /// Places the next argument, or gives `None` if it would end beyond the
     /// limit.
-    pub(crate) fn place(&mut self, device: Device, kind: Kind) -> Option<Placement> {
+    pub(crate) fn place(&mut self, device: Device, kind: Kind) -> Option<Location> {
         let size = kind.size();
         let offset = align_up(self.end, kind.alignment());
         let end = align_up(offset + size, 4);
         if end > END_LIMIT {
             return None;
         }
-        let placement = match self.floating_pair(device, kind) {
+        let location = match self.floating_pair(device, kind) {
             Some(pair) => {
                 self.floating += 1;
-                Placement::floating(pair, size)
+                Location::floating(pair, offset, size)
             }
-            None => Placement::at_offset(offset, size),
+            None => Location::at_offset(offset, size),
         };
         self.arguments += 1;
         self.end = end;
-        Some(placement)
+        Some(location)
     }
 
     /// The pair for the next argument. Only the first two arguments get one,
@@ -177,61 +195,60 @@ mod tests {
 
     fn place_all(device: Device, kinds: &[Kind]) -> (Vec<(usize, usize)>, usize) {
         let mut area = ArgumentArea::default();
-        let placements = kinds
+        let locations = kinds
             .iter()
             .map(|&kind| area.place(device, kind).expect("within the limit"))
-            .map(|placement| (placement.start, placement.together))
+            .map(|location| (location.start, location.together))
             .collect();
-        (placements, area.size())
+        (locations, area.size())
     }
 
     #[test]
     fn a_structure_is_split_between_registers_and_stack() {
-        let (placements, size) = place_all(Device::Fpu, &[Kind::Word, Kind::Structure(20)]);
-        assert_eq!(placements, [(0, 4), (4, 12)]);
+        let (locations, size) = place_all(Device::Fpu, &[Kind::Word, Kind::Structure(20)]);
+        assert_eq!(locations, [(0, 4), (4, 12)]);
         assert_eq!(size, 24);
 
         let mut image = [0; 56];
         let bytes: Vec<u8> = (1..=20).collect();
-        Placement::at_offset(4, 20).put(&bytes, &mut image);
+        Location::at_offset(4, 20).put(&bytes, &mut image);
         assert_eq!(image[4..16], bytes[..12]);
         assert_eq!(image[48..56], bytes[12..]);
     }
 
     #[test]
     fn a_third_float_goes_by_its_offset() {
-        let (placements, size) =
-            place_all(Device::Fpu, &[Kind::Single, Kind::Double, Kind::Single]);
-        assert_eq!(placements, [(16, 4), (28, 4), (48, 4)]);
+        let (locations, size) = place_all(Device::Fpu, &[Kind::Single, Kind::Double, Kind::Single]);
+        assert_eq!(locations, [(16, 4), (28, 4), (48, 4)]);
         assert_eq!(size, 24);
     }
 
     #[test]
     fn a_double_in_a_pair_has_its_high_half_in_the_odd_register() {
         for pair in FLOATING_PAIRS {
-            let placement = Placement::floating(pair, 8);
+            let location = Location::floating(pair, 0, 8);
             let mut image = [0; 48];
-            placement.put(&[1, 2, 3, 4, 5, 6, 7, 8], &mut image);
+            location.put(&[1, 2, 3, 4, 5, 6, 7, 8], &mut image);
             assert_eq!(image[pair..pair + 8], [5, 6, 7, 8, 1, 2, 3, 4]);
             let mut bytes = [0; 8];
-            placement.get(&image, &mut bytes);
+            location.get(&image, &mut bytes);
             assert_eq!(bytes, [1, 2, 3, 4, 5, 6, 7, 8]);
         }
     }
 
     #[test]
     fn a_float_behind_an_integer_gets_no_floating_register() {
-        let (placements, _) = place_all(Device::Fpu, &[Kind::Word, Kind::Single]);
-        assert_eq!(placements, [(0, 4), (4, 4)]);
-        let (placements, _) = place_all(Device::Fpu, &[Kind::Single, Kind::Word, Kind::Single]);
-        assert_eq!(placements, [(16, 4), (4, 4), (8, 4)]);
+        let (locations, _) = place_all(Device::Fpu, &[Kind::Word, Kind::Single]);
+        assert_eq!(locations, [(0, 4), (4, 4)]);
+        let (locations, _) = place_all(Device::Fpu, &[Kind::Single, Kind::Word, Kind::Single]);
+        assert_eq!(locations, [(16, 4), (4, 4), (8, 4)]);
     }
 
     #[test]
     fn without_a_unit_floats_go_by_their_offsets() {
         let kinds = [Kind::Double, Kind::Single, Kind::Double];
-        let (placements, size) = place_all(Device::NoFpu, &kinds);
-        assert_eq!(placements, [(0, 8), (8, 4), (48, 8)]);
+        let (locations, size) = place_all(Device::NoFpu, &kinds);
+        assert_eq!(locations, [(0, 8), (8, 4), (48, 8)]);
         assert_eq!(size, 24);
     }
 }

@@ -1,11 +1,11 @@
 //! Lists and signatures, one record at a time.
 
 use crate::kind::Kind;
-use crate::placement::{ArgumentArea, Placement, REGISTER_BYTES};
+use crate::placement::{ArgumentArea, Location, REGISTER_BYTES};
 use crate::{Device, Lengths, Refusal};
 
 /// Arguments in a list, a return pointer counted and the marker not.
-const ARGUMENT_LIMIT: usize = 32;
+pub(crate) const ARGUMENT_LIMIT: usize = 32;
 
 /// All arguments and the marker.
 const RECORD_LIMIT: usize = ARGUMENT_LIMIT + 1;
@@ -26,43 +26,43 @@ pub(crate) struct Record {
     pub(crate) argument: u32,
     pub(crate) kind: Kind,
     /// Of no account for the marker, which is no argument.
-    pub(crate) placement: Placement,
+    pub(crate) location: Location,
 }
 
-/// The records of an accepted list or signature, each with its placement.
-pub(crate) struct Plan {
+/// The records of an accepted list or signature, each with its location.
+pub(crate) struct Records {
     records: [Record; RECORD_LIMIT],
     count: usize,
     area: ArgumentArea,
     has_return_pointer: bool,
 }
 
-impl Plan {
-    /// The plan for a list.
+impl Records {
+    /// The records of a list.
     #[inline]
-    pub(crate) fn of_list(device: Device, list: &[u8]) -> Result<Plan, Refusal> {
-        let mut plan = Plan::empty();
-        plan.take_all(device, list, Form::List)?;
-        Ok(plan)
+    pub(crate) fn of_list(device: Device, list: &[u8]) -> Result<Records, Refusal> {
+        let mut records = Records::empty();
+        records.take_all(device, list, Form::List)?;
+        Ok(records)
     }
 
-    /// The plan for a signature.
+    /// The records of a signature.
     #[inline]
-    pub(crate) fn of_signature(device: Device, signature: &[u8]) -> Result<Plan, Refusal> {
-        let mut plan = Plan::empty();
-        plan.take_all(device, signature, Form::Signature)?;
-        Ok(plan)
+    pub(crate) fn of_signature(device: Device, signature: &[u8]) -> Result<Records, Refusal> {
+        let mut records = Records::empty();
+        records.take_all(device, signature, Form::Signature)?;
+        Ok(records)
     }
 
     #[inline]
-    fn empty() -> Plan {
+    fn empty() -> Records {
         let unused = Record {
             place: 0,
             argument: 0,
             kind: Kind::Marker,
-            placement: Placement::default(),
+            location: Location::default(),
         };
-        Plan {
+        Records {
             records: [unused; RECORD_LIMIT],
             count: 0,
             area: ArgumentArea::default(),
@@ -70,12 +70,16 @@ impl Plan {
         }
     }
 
-    pub(crate) fn records(&self) -> &[Record] {
+    pub(crate) fn as_slice(&self) -> &[Record] {
         &self.records[..self.count]
     }
 
+    pub(crate) fn area_size(&self) -> usize {
+        self.area.size()
+    }
+
     pub(crate) fn image_length(&self) -> usize {
-        REGISTER_BYTES + self.area.size()
+        REGISTER_BYTES + self.area_size()
     }
 
     /// The lengths of image and list, the list's with all bodies.
@@ -83,7 +87,7 @@ impl Plan {
         Lengths {
             image: self.image_length(),
             list: self
-                .records()
+                .as_slice()
                 .iter()
                 .map(|record| 1 + record.kind.body())
                 .sum(),
@@ -124,10 +128,10 @@ impl Plan {
         if form == Form::List && room < kind.body() {
             return Err(refused(Refusal::CUT_OFF));
         }
-        let placement = match kind {
+        let location = match kind {
             Kind::Marker => {
                 self.area.pass_marker();
-                Placement::default()
+                Location::default()
             }
             _ => self
                 .area
@@ -140,7 +144,7 @@ impl Plan {
             place,
             argument,
             kind,
-            placement,
+            location,
         };
         self.count += 1;
         Ok(kind)

@@ -3,7 +3,7 @@
 use crate::image::checked_output;
 use crate::kind::Kind;
 use crate::placement::{align_up, GENERAL_BYTES, REGISTER_BYTES};
-use crate::records::{Plan, Record};
+use crate::records::{Record, Records};
 use crate::{Answer, Device, Refusal};
 
 /// Takes the arguments behind the marker as a routine with an ellipsis does,
@@ -18,11 +18,11 @@ fn walk_image(
     image: &[u8],
     bodies: &mut [u8],
 ) -> Result<usize, Refusal> {
-    let plan = Plan::of_signature(device, signature)?;
+    let records = Records::of_signature(device, signature)?;
     let (named, unnamed) =
-        around_marker(plan.records()).ok_or(Refusal::nowhere(Refusal::NO_MARKER))?;
+        around_marker(records.as_slice()).ok_or(Refusal::nowhere(Refusal::NO_MARKER))?;
     let length = unnamed.iter().map(|record| record.kind.body()).sum();
-    let mut rest = checked_output(&plan, image, length, bodies)?;
+    let mut rest = checked_output(&records, image, length, bodies)?;
 
     let memory = spilled(image);
     let mut pointer = ArgumentPointer::default();
@@ -54,14 +54,19 @@ fn spilled(image: &[u8]) -> Vec<u8> {
 
 /// Where the routine goes on in the argument area.
 #[derive(Default)]
-struct ArgumentPointer {
+pub(crate) struct ArgumentPointer {
     offset: usize,
 }
 
 impl ArgumentPointer {
+    /// The end of the last argument that was passed, fill included.
+    pub(crate) fn offset(&self) -> usize {
+        self.offset
+    }
+
     /// Goes past an argument and gives the offset where it lies. A float in a
     /// floating register has its offset too, though nothing need lie there.
-    fn pass(&mut self, kind: Kind) -> usize {
+    pub(crate) fn pass(&mut self, kind: Kind) -> usize {
         let offset = align_up(self.offset, kind.alignment());
         self.offset = align_up(offset + kind.size(), 4);
         offset

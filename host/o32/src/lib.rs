@@ -1,10 +1,12 @@
 //! Call images and frames of the MIPS O32 calling convention.
 //!
 //! A safe interface to a library whose functions are proved to do what their
-//! contracts say, for every input. [`write()`] turns a list of arguments into a
-//! call image, the contents of the argument registers and of the stack's
-//! argument area at the moment of the call, and [`read()`] reads such an image
-//! back. [`walk`] takes the arguments behind an ellipsis from an image, as the
+//! contracts say, for every input. [`make_plan`] says where each argument of a
+//! signature lies, and [`fill`] turns a list of such arguments into a call image
+//! by that plan: the contents of the argument registers and of the stack's
+//! argument area at the moment of the call. [`write()`] makes the image of a
+//! list that is sent once, without a plan, and [`read()`] reads an image back.
+//! [`walk`] takes the arguments behind an ellipsis from an image, as the
 //! called routine does. [`layout`] lays out a routine's stack frame;
 //! [`prologue`] and [`epilogue`] write the instructions that set it up and take
 //! it down. [`describe`] gives the size, the alignment and the kind of a
@@ -18,17 +20,21 @@
 //! use o32::{Device, Refusal, IMAGE_MAX, LIST_MAX};
 //!
 //! fn main() -> Result<(), Refusal> {
-//!     // The word 9, and a structure of six bytes.
-//!     let list = [0x05, 0, 0, 0, 9, 0x45, 1, 2, 3, 4, 5, 6];
-//!     let mut buffer = [0; IMAGE_MAX];
-//!     let image = o32::write(Device::Fpu, &list, &mut buffer)?;
-//!     assert_eq!(image.len(), 48);
-//!     assert_eq!(image[0..4], [0, 0, 0, 9]); // $4
-//!     assert_eq!(image[4..12], [1, 2, 3, 4, 5, 6, 0, 0]); // $5 and $6
+//!     // A word, and a structure of six bytes: one plan for all such calls.
+//!     let signature = [0x05, 0x45];
+//!     let plan = o32::make_plan(Device::Fpu, &signature)?;
+//!     for number in 0..10 {
+//!         let list = [0x05, 0, 0, 0, number, 0x45, 1, 2, 3, 4, 5, 6];
+//!         let mut buffer = [0; IMAGE_MAX];
+//!         let image = o32::fill(Device::Fpu, &plan, &list, &mut buffer)?;
+//!         assert_eq!(image.len(), 48);
+//!         assert_eq!(image[0..4], [0, 0, 0, number]); // $4
+//!         assert_eq!(image[4..12], [1, 2, 3, 4, 5, 6, 0, 0]); // $5 and $6
 //!
-//!     let mut buffer = [0; LIST_MAX];
-//!     let reading = o32::read(Device::Fpu, &[0x05, 0x45], image, &mut buffer)?;
-//!     assert_eq!(reading, list);
+//!         let mut buffer = [0; LIST_MAX];
+//!         let reading = o32::read(Device::Fpu, &signature, image, &mut buffer)?;
+//!         assert_eq!(reading, list);
+//!     }
 //!     Ok(())
 //! }
 //! ```
@@ -58,7 +64,7 @@
 //! arguments; a return pointer counts as one, the marker doesn't. A return
 //! pointer stands first or not at all. The marker stands at most once, behind
 //! at least one argument that is no return pointer, and may come last. A
-//! signature is the kind bytes of a list alone, in order.
+//! signature is the kind bytes of a list alone, in order; [`signature`] gives it.
 //!
 //! # Images
 //!
@@ -66,6 +72,16 @@
 //! and from byte 32 on lies the argument area, whose first 16 bytes are the
 //! homes of `$4` to `$7`. The C header, `include/o32.h`, says which argument
 //! goes where.
+//!
+//! # Plans
+//!
+//! A [`Plan`] is for a signature that is sent many times, as in a sweep: it is
+//! made once, and an image is filled by it for each list. What `fill` answers is
+//! what `write` answers for the list. The plan is compared whole on every call,
+//! with the one that the list's signature has on the device, and used for
+//! nothing else: one that was damaged, or that isn't the list's, is refused. So
+//! a list whose kinds are others than those of the sweep is found; a marker
+//! alone is not seen, unless it keeps a float from `$f14`. Time is not saved.
 //!
 //! # Descriptions
 //!
@@ -106,17 +122,25 @@
 #[cfg(test)]
 extern crate std;
 
+mod plan;
 pub mod raw;
 mod refusal;
 
+pub use plan::{Placement, Plan};
 pub use refusal::Refusal;
 
 /// The version of the library's interface that this crate is written for, as
 /// `O32_VERSION` in C.
-pub const VERSION: u32 = 3;
+pub const VERSION: u32 = 4;
 
 /// Bytes of the longest list that is accepted.
 pub const LIST_MAX: usize = 1057;
+
+/// Bytes of the longest signature that is accepted: 32 arguments and a marker.
+pub const SIGNATURE_MAX: usize = 33;
+
+/// Words of a plan in C.
+pub const PLAN_WORDS: usize = 98;
 
 /// Bytes of the longest image.
 pub const IMAGE_MAX: usize = 1056;
@@ -212,7 +236,116 @@ pub fn version() -> u32 {
     raw::version()
 }
 
+/// Writes the signature of a list to the start of `signature`, and gives it
+/// back: the list's kind bytes, in order, for [`make_plan`], [`read()`] and
+/// [`walk`]. It is the same for every device.
+///
+/// A buffer of [`SIGNATURE_MAX`] bytes is always enough. Refuses 1 to 5, with
+/// their places in the list, and 7.
+///
+/// ```
+/// use o32::{Refusal, SIGNATURE_MAX};
+///
+/// // A word, a marker, and a signed byte.
+/// let list = [0x05, 0, 0, 0, 9, 0x0A, 0x01, 0x80];
+/// let mut buffer = [0; SIGNATURE_MAX];
+/// assert_eq!(o32::signature(&list, &mut buffer)?, [0x05, 0x0A, 0x01]);
+/// assert_eq!(
+///     o32::signature(&list[..7], &mut buffer),
+///     Err(Refusal::BodyCutOff { place: 6, argument: 2 })
+/// );
+/// # Ok::<(), Refusal>(())
+/// ```
+#[inline]
+pub fn signature<'a>(list: &[u8], signature: &'a mut [u8]) -> Result<&'a [u8], Refusal> {
+    check_version();
+    let length = length_of(raw::signature(list, signature))?;
+    Ok(&signature[..length])
+}
+
+/// The plan of a signature on a device, for [`fill`]. Refuses 1 to 3 and 5.
+///
+/// A plan holds neither its device nor the marker: the plans of two devices
+/// differ only where an argument goes to a floating register, and a marker shows
+/// only by keeping the second argument from one.
+///
+/// ```
+/// use o32::{Device, Placement, Refusal};
+///
+/// fn main() -> Result<(), Refusal> {
+///     // A double and a word.
+///     let plan = o32::make_plan(Device::Fpu, &[0x08, 0x05])?;
+///     assert_eq!((plan.count, plan.area), (2, 16));
+///     let double = Placement { kind: 0x08, offset: 0, float_register: 12 };
+///     let word = Placement { kind: 0x05, offset: 8, float_register: 0 };
+///     assert_eq!(plan.placements[..2], [double, word]);
+///     assert_eq!(plan.placements[2..], [Placement::default(); 30]);
+///
+///     // No 33rd argument has a placement.
+///     assert_eq!(
+///         o32::make_plan(Device::Fpu, &[0x05; 33]),
+///         Err(Refusal::TooManyArguments { place: 32, argument: 33 })
+///     );
+///     Ok(())
+/// }
+/// ```
+#[inline]
+pub fn make_plan(device: Device, signature: &[u8]) -> Result<Plan, Refusal> {
+    check_version();
+    let mut plan = Plan::default();
+    length_of(raw::make_plan(device, signature, raw::words_mut(&mut plan)))?;
+    Ok(plan)
+}
+
+/// Writes the call image of a list to the start of `image`, by the plan of the
+/// list's signature on the device, and gives it back. The image is the one that
+/// [`write()`] gives for the list.
+///
+/// A buffer of [`IMAGE_MAX`] bytes is always enough. Refuses 1 to 5 of the list,
+/// then 20 where the plan differs in any number from the one that the list's
+/// signature has on the device, then 7.
+///
+/// ```
+/// use o32::{Device, Refusal, IMAGE_MAX};
+///
+/// fn main() -> Result<(), Refusal> {
+///     let plan = o32::make_plan(Device::Fpu, &[0x01])?;
+///     let mut buffer = [0; IMAGE_MAX];
+///     let image = o32::fill(Device::Fpu, &plan, &[0x01, 0x80], &mut buffer)?;
+///     assert_eq!(image[0..4], [0xFF, 0xFF, 0xFF, 0x80]); // $4
+///
+///     // The plan of a signed byte is none for an unsigned one.
+///     assert_eq!(
+///         o32::fill(Device::Fpu, &plan, &[0x02, 0x80], &mut buffer),
+///         Err(Refusal::PlanDiffers)
+///     );
+///     // Nor for the same list, once a number of it is another.
+///     let mut changed = plan;
+///     changed.placements[31].offset = 4;
+///     assert_eq!(
+///         o32::fill(Device::Fpu, &changed, &[0x01, 0x80], &mut buffer),
+///         Err(Refusal::PlanDiffers)
+///     );
+///     Ok(())
+/// }
+/// ```
+#[inline]
+pub fn fill<'a>(
+    device: Device,
+    plan: &Plan,
+    list: &[u8],
+    image: &'a mut [u8],
+) -> Result<&'a [u8], Refusal> {
+    check_version();
+    let length = length_of(raw::fill(device, raw::words(plan), list, image))?;
+    Ok(&image[..length])
+}
+
 /// Writes the call image of a list to the start of `image`, and gives it back.
+///
+/// This is the form for a list that is sent once, in one call and without a
+/// plan. For a signature that is sent many times there are [`make_plan`] and
+/// [`fill`].
 ///
 /// A buffer of [`IMAGE_MAX`] bytes is always enough. Refuses 1 to 5 and 7.
 ///
@@ -291,13 +424,15 @@ pub fn read<'a>(
 ///
 /// fn main() -> Result<(), Refusal> {
 ///     // The single 1.0, the marker, and the double 2.0.
+///     let signature = [0x07, 0x0A, 0x08];
 ///     let list = [0x07, 0x3F, 0x80, 0, 0, 0x0A, 0x08, 0x40, 0, 0, 0, 0, 0, 0, 0];
+///     let plan = o32::make_plan(Device::Fpu, &signature)?;
 ///     let mut buffer = [0; IMAGE_MAX];
-///     let image = o32::write(Device::Fpu, &list, &mut buffer)?;
+///     let image = o32::fill(Device::Fpu, &plan, &list, &mut buffer)?;
 ///
 ///     // The single ends at offset 4, the double lies at 8: in $6 and $7.
 ///     let mut buffer = [0; BODIES_MAX];
-///     let bodies = o32::walk(Device::Fpu, &[0x07, 0x0A, 0x08], image, &mut buffer)?;
+///     let bodies = o32::walk(Device::Fpu, &signature, image, &mut buffer)?;
 ///     assert_eq!(bodies, 2.0f64.to_be_bytes());
 ///
 ///     assert_eq!(
@@ -434,9 +569,11 @@ pub fn epilogue(device: Device, request: Request, code: &mut [u8]) -> Result<&[u
 ///     assert_eq!((structure.size, structure.alignment), (20, 4));
 ///     assert_eq!(structure.kind, 0x53);
 ///
-///     // The kind is for lists and signatures.
+///     // The kind is for signatures and lists.
+///     let plan = o32::make_plan(Device::Fpu, &[structure.kind])?;
 ///     let list = [&[structure.kind][..], &[0xAB; 20]].concat();
-///     assert_eq!(o32::write(Device::Fpu, &list, &mut [0; IMAGE_MAX])?.len(), 56);
+///     let mut buffer = [0; IMAGE_MAX];
+///     assert_eq!(o32::fill(Device::Fpu, &plan, &list, &mut buffer)?.len(), 56);
 ///
 ///     // It is cut off before its end.
 ///     assert_eq!(

@@ -9,9 +9,9 @@
 //! the only module with `unsafe` code.
 #![allow(unsafe_code)]
 
-use crate::Device;
+use crate::{Device, Plan, PLAN_WORDS};
 
-/// What a writer, a reader, the walker or a code writer answers.
+/// What each function answers that has an output buffer.
 #[must_use = "the buffer has no result if this is a refusal"]
 #[repr(C)]
 #[derive(Clone, Copy, Debug, Default, PartialEq, Eq)]
@@ -22,7 +22,7 @@ pub struct Answer {
     pub place: u32,
     /// Number of the refused argument, from 1; 0 where the refusal has none.
     pub argument: u32,
-    /// Bytes written, 0 on a refusal.
+    /// Bytes written, or words of a plan; 0 on a refusal.
     pub length: u32,
 }
 
@@ -89,6 +89,31 @@ mod capi {
 
     extern "C" {
         pub fn o32_version() -> u32;
+
+        pub fn o32_signature(
+            list: *const u8,
+            list_len: usize,
+            signature: *mut u8,
+            signature_len: usize,
+        ) -> Answer;
+
+        pub fn o32_make_plan(
+            device: u32,
+            signature: *const u8,
+            signature_len: usize,
+            plan: *mut u32,
+            plan_words: usize,
+        ) -> Answer;
+
+        pub fn o32_fill(
+            device: u32,
+            plan: *const u32,
+            plan_words: usize,
+            list: *const u8,
+            list_len: usize,
+            image: *mut u8,
+            image_len: usize,
+        ) -> Answer;
 
         pub fn o32_write(
             device: u32,
@@ -160,11 +185,74 @@ pub fn version() -> u32 {
     unsafe { capi::o32_version() }
 }
 
+/// Puts the kind bytes of a list at the start of `signature`.
+#[inline]
+pub fn signature(list: &[u8], signature: &mut [u8]) -> Answer {
+    // SAFETY: both pointers are valid for the lengths that go with them, the
+    // one for reads and the other for writes, and the borrows keep them apart.
+    unsafe {
+        capi::o32_signature(
+            list.as_ptr(),
+            list.len(),
+            signature.as_mut_ptr(),
+            signature.len(),
+        )
+    }
+}
+
+/// Puts the plan of a signature at the start of `plan`, in the order of
+/// [`Plan`]; the answered length counts words.
+#[inline]
+pub fn make_plan(device: Device, signature: &[u8], plan: &mut [u32]) -> Answer {
+    // SAFETY: as for `signature`; the length of `plan` counts words, as in C.
+    unsafe {
+        capi::o32_make_plan(
+            device as u32,
+            signature.as_ptr(),
+            signature.len(),
+            plan.as_mut_ptr(),
+            plan.len(),
+        )
+    }
+}
+
+/// Turns an argument list into a call image at the start of `image`, by the plan
+/// of its signature. The words of the plan may be any, and of any number.
+#[inline]
+pub fn fill(device: Device, plan: &[u32], list: &[u8], image: &mut [u8]) -> Answer {
+    // SAFETY: as for `make_plan`; plan and list are only read.
+    unsafe {
+        capi::o32_fill(
+            device as u32,
+            plan.as_ptr(),
+            plan.len(),
+            list.as_ptr(),
+            list.len(),
+            image.as_mut_ptr(),
+            image.len(),
+        )
+    }
+}
+
+/// The words of a plan.
+#[inline]
+pub(crate) fn words(plan: &Plan) -> &[u32; PLAN_WORDS] {
+    // SAFETY: the struct has C's layout, consists of so many words and of
+    // nothing else, and is aligned as its words are.
+    unsafe { &*(plan as *const Plan).cast() }
+}
+
+/// The words of a plan, to be written.
+#[inline]
+pub(crate) fn words_mut(plan: &mut Plan) -> &mut [u32; PLAN_WORDS] {
+    // SAFETY: as for `words`, and any words make a plan as Rust sees it.
+    unsafe { &mut *(plan as *mut Plan).cast() }
+}
+
 /// Turns an argument list into a call image at the start of `image`.
 #[inline]
 pub fn write(device: Device, list: &[u8], image: &mut [u8]) -> Answer {
-    // SAFETY: both pointers are valid for the lengths that go with them, the
-    // one for reads and the other for writes, and the borrows keep them apart.
+    // SAFETY: as for `signature`.
     unsafe {
         capi::o32_write(
             device as u32,

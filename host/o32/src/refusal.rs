@@ -9,14 +9,14 @@ use core::fmt;
 ///
 /// | number | refused by | variant | place | argument |
 /// |---:|---|---|---|---|
-/// | 1 | write, read, walk | [`UnknownKind`](Self::UnknownKind) | yes | |
-/// | 2 | write, read, walk | [`MisplacedMarker`](Self::MisplacedMarker) | yes | |
-/// | 2 | write, read, walk | [`MisplacedReturnPointer`](Self::MisplacedReturnPointer) | yes | yes |
-/// | 3 | write, read, walk | [`TooManyArguments`](Self::TooManyArguments) | yes | yes |
-/// | 4 | write | [`BodyCutOff`](Self::BodyCutOff) | yes | yes |
-/// | 5 | write, read, walk | [`BeyondLimit`](Self::BeyondLimit) | yes | yes |
+/// | 1 | make_plan, fill, signature, write, read, walk | [`UnknownKind`](Self::UnknownKind) | yes | |
+/// | 2 | make_plan, fill, signature, write, read, walk | [`MisplacedMarker`](Self::MisplacedMarker) | yes | |
+/// | 2 | make_plan, fill, signature, write, read, walk | [`MisplacedReturnPointer`](Self::MisplacedReturnPointer) | yes | yes |
+/// | 3 | make_plan, fill, signature, write, read, walk | [`TooManyArguments`](Self::TooManyArguments) | yes | yes |
+/// | 4 | fill, signature, write | [`BodyCutOff`](Self::BodyCutOff) | yes | yes |
+/// | 5 | make_plan, fill, signature, write, read, walk | [`BeyondLimit`](Self::BeyondLimit) | yes | yes |
 /// | 6 | read, walk | [`ImageLength`](Self::ImageLength) | | |
-/// | 7 | write, read, walk | [`ShortOutput`](Self::ShortOutput) | | |
+/// | 7 | fill, signature, write, read, walk | [`ShortOutput`](Self::ShortOutput) | | |
 /// | 8 | read, walk | [`NoPromotion`](Self::NoPromotion) | yes | yes |
 /// | 9 | layout, prologue, epilogue | [`Masks`](Self::Masks) | | |
 /// | 10 | layout, prologue, epilogue | [`ReturnAddressNotSaved`](Self::ReturnAddressNotSaved) | | |
@@ -30,17 +30,17 @@ use core::fmt;
 /// | 18 | describe | [`MemberBeyondLimit`](Self::MemberBeyondLimit) | yes | |
 /// | 19 | describe | [`EmptyStructure`](Self::EmptyStructure) | yes | |
 /// | 19 | describe | [`NoKind`](Self::NoKind) | | |
+/// | 20 | fill | [`PlanDiffers`](Self::PlanDiffers) | | |
 ///
-/// Records are checked from left to right, each by 1 to 5 in this order; 15, 6,
-/// 7 and 8 follow in this order when all records have passed. The checks of a
+/// Records are checked from left to right, each by 1 to 5 in this order; 20, 15,
+/// 6, 7 and 8 follow in this order when all records have passed. The checks of a
 /// frame are 9, 14, 10, 11, 12 and 13, in this order. The bytes of a description
 /// are checked from left to right, each by 16 to 19 in this order; `NoKind`
 /// follows when all bytes have passed. The first that applies is answered.
 ///
-/// A place is the offset of a kind byte in the list that was to be written, or
-/// in the signature that an image was to be read under, or of a byte in the
-/// description. An argument is counted from 1; a return pointer counts, the
-/// marker doesn't.
+/// A place is the offset of a kind byte in the list or the signature that was
+/// given, or of a byte in the description. An argument is counted from 1; a
+/// return pointer counts, the marker doesn't.
 #[non_exhaustive]
 #[derive(Clone, Copy, Debug, PartialEq, Eq, Hash)]
 pub enum Refusal {
@@ -85,7 +85,8 @@ pub enum Refusal {
     },
     /// 6: the image's length isn't the one that the signature asks for.
     ImageLength,
-    /// 7: the output buffer is shorter than the image, the list or the bodies.
+    /// 7: the output buffer is shorter than the image, the list, the signature
+    /// or the bodies.
     ShortOutput,
     /// 8: the image's word for a byte or halfword (kinds 01 to 04) is none that
     /// promotion gives, such as 00000080 for a signed byte.
@@ -133,6 +134,9 @@ pub enum Refusal {
     },
     /// 19: no kind is that of a structure of this size and alignment.
     NoKind,
+    /// 20: a number of the plan isn't the one that the list's signature has on
+    /// the device.
+    PlanDiffers,
     /// A number that this crate has no name for. A later version may have one,
     /// so match it with `_`.
     #[non_exhaustive]
@@ -174,6 +178,7 @@ impl Refusal {
             // No structure is closed by the first byte of a description.
             19 if place == 0 => Refusal::NoKind,
             19 => Refusal::EmptyStructure { place },
+            20 => Refusal::PlanDiffers,
             _ => Refusal::Unknown {
                 number,
                 place,
@@ -204,6 +209,7 @@ impl Refusal {
             Refusal::TooDeep { .. } => 17,
             Refusal::MemberBeyondLimit { .. } => 18,
             Refusal::EmptyStructure { .. } | Refusal::NoKind => 19,
+            Refusal::PlanDiffers => 20,
             Refusal::Unknown { number, .. } => number,
         }
     }
@@ -275,6 +281,9 @@ impl Refusal {
             Refusal::MemberBeyondLimit { .. } => "the member ends above 512 in its structure",
             Refusal::EmptyStructure { .. } => "the structure is closed without a member",
             Refusal::NoKind => "no kind has the structure's size and alignment",
+            Refusal::PlanDiffers => {
+                "the plan is not the one of the list's signature on this device"
+            }
             Refusal::Unknown { .. } => "a refusal that this version of the crate does not know",
         }
     }
@@ -303,7 +312,7 @@ mod tests {
 
     #[test]
     fn numbers_are_kept() {
-        for number in 0..=20 {
+        for number in 0..=21 {
             assert_eq!(Refusal::of(number, 7, 3).number(), number);
             assert_eq!(Refusal::of(number, 0, 0).number(), number);
         }

@@ -1,7 +1,12 @@
 //! The crate with the library: every refusal by its name, and the sizes of
 //! buffers that are always enough.
 
-use o32::{Device, Refusal, Request, BODIES_MAX, EPILOGUE_MAX, IMAGE_MAX, LIST_MAX, PROLOGUE_MAX};
+use o32::{
+    raw, Device, Placement, Plan, Refusal, Request, BODIES_MAX, EPILOGUE_MAX, IMAGE_MAX, LIST_MAX,
+    PLAN_WORDS, PROLOGUE_MAX, SIGNATURE_MAX,
+};
+
+const DEVICES: [Device; 2] = [Device::Fpu, Device::NoFpu];
 
 /// `$16` to `$23`, `$30` and `$31`.
 const ALL_REGISTERS: u32 = 0xC0FF_0000;
@@ -13,9 +18,17 @@ fn the_library_has_the_version_of_the_crate() {
     assert_eq!(o32::version(), o32::VERSION);
 }
 
-/// How a list is refused with every byte of room that an image may need.
+/// How a list is refused with every byte of room that an image may need, and
+/// whatever the plan.
 fn refusal_of_list(list: &[u8]) -> Refusal {
-    o32::write(Device::Fpu, list, &mut [0; IMAGE_MAX]).unwrap_err()
+    let refusal = o32::write(Device::Fpu, list, &mut [0; IMAGE_MAX]).unwrap_err();
+    let mut signature = [0; SIGNATURE_MAX];
+    assert_eq!(o32::signature(list, &mut signature), Err(refusal));
+    assert_eq!(
+        o32::fill(Device::Fpu, &Plan::default(), list, &mut []),
+        Err(refusal)
+    );
+    refusal
 }
 
 /// How a request is refused with every byte of room that code may need.
@@ -181,7 +194,7 @@ fn walks_that_are_refused() {
             },
         ),
     ] {
-        for device in [Device::Fpu, Device::NoFpu] {
+        for device in DEVICES {
             let mut bodies = [0xA5; 4];
             assert_eq!(
                 o32::walk(device, signature, &image, &mut bodies),
@@ -190,6 +203,160 @@ fn walks_that_are_refused() {
             assert_eq!(bodies, [0xA5; 4]);
         }
     }
+}
+
+/// A double, a single, a word, a marker and a signed byte.
+const MIXED: [u8; 5] = [0x08, 0x07, 0x05, 0x0A, 0x01];
+
+/// A list of these kinds.
+fn mixed_list(number: u8) -> Vec<u8> {
+    let records: [&[u8]; 5] = [
+        &[0x08, 0x3F, 0xF0, 0, 0, 0, 0, 0, number],
+        &[0x07, 0x3F, 0x80, 0, number],
+        &[0x05, 0, 0, 0, number],
+        &[0x0A],
+        &[0x01, number],
+    ];
+    records.concat()
+}
+
+fn placement(kind: u32, offset: u32, float_register: u32) -> Placement {
+    Placement {
+        kind,
+        offset,
+        float_register,
+    }
+}
+
+#[test]
+fn a_plan_has_a_placement_for_each_argument() {
+    for (device, registers) in [(Device::Fpu, [12, 14]), (Device::NoFpu, [0, 0])] {
+        let plan = o32::make_plan(device, &MIXED).unwrap();
+        let expected = [
+            placement(0x08, 0, registers[0]),
+            placement(0x07, 8, registers[1]),
+            placement(0x05, 12, 0),
+            placement(0x01, 16, 0),
+        ];
+        assert_eq!(plan.placements[..4], expected);
+        assert_eq!(plan.placements[4..], [Placement::default(); 28]);
+        assert_eq!((plan.count, plan.area), (4, 24));
+    }
+}
+
+/// The names of a plan's numbers stand for C's words in their order.
+#[test]
+fn a_plan_has_the_order_of_its_words() {
+    let signature = signature_of_longest();
+    let plan = o32::make_plan(Device::Fpu, &signature).unwrap();
+    let mut words = [0xA5A5_A5A5; PLAN_WORDS + 1];
+    let answer = raw::make_plan(Device::Fpu, &signature, &mut words);
+    assert_eq!((answer.refusal, answer.length as usize), (0, PLAN_WORDS));
+    let named: Vec<u32> = plan
+        .placements
+        .iter()
+        .flat_map(|entry| [entry.kind, entry.offset, entry.float_register])
+        .chain([plan.count, plan.area])
+        .collect();
+    assert_eq!(words[..PLAN_WORDS], named);
+    assert_eq!(words[PLAN_WORDS], 0xA5A5_A5A5);
+    assert_eq!((plan.count, plan.area), (32, 1024));
+}
+
+#[test]
+fn one_plan_gives_all_images_of_its_signature() {
+    for device in DEVICES {
+        let plan = o32::make_plan(device, &MIXED).unwrap();
+        for number in 0..=0xFF {
+            let list = mixed_list(number);
+            let (mut filled, mut written) = ([0xA5; IMAGE_MAX], [0xA5; IMAGE_MAX]);
+            assert_eq!(
+                o32::fill(device, &plan, &list, &mut filled),
+                o32::write(device, &list, &mut written)
+            );
+            assert_eq!(filled, written);
+        }
+    }
+}
+
+#[test]
+fn a_plan_that_differs() {
+    let list = mixed_list(1);
+    let plan = o32::make_plan(Device::Fpu, &MIXED).unwrap();
+    let (mut count, mut area, mut past) = (plan, plan, plan);
+    count.count += 1;
+    area.area += 8;
+    past.placements[31].kind = 0x05;
+    let other_device = o32::make_plan(Device::NoFpu, &MIXED).unwrap();
+    for changed in [count, area, past, other_device, Plan::default()] {
+        // It is refused before the room is looked at.
+        let mut image = [0xA5; 16];
+        let refusal = o32::fill(Device::Fpu, &changed, &list, &mut image).unwrap_err();
+        assert_eq!(refusal, Refusal::PlanDiffers);
+        assert_parts(refusal, 20, None, None);
+        assert_eq!(image, [0xA5; 16]);
+        assert_eq!(
+            refusal.to_string(),
+            "the plan is not the one of the list's signature on this device (refusal 20)"
+        );
+    }
+}
+
+/// A marker is no entry, so a plan may serve with one and without.
+#[test]
+fn a_plan_of_words_serves_with_a_marker_and_on_both_devices() {
+    let plan = o32::make_plan(Device::Fpu, &[0x05, 0x05]).unwrap();
+    let list = [&WORD[..], &[0x0A], &WORD].concat();
+    for device in DEVICES {
+        let mut buffer = [0; 48];
+        let image = o32::fill(device, &plan, &list, &mut buffer).unwrap();
+        assert_eq!(image[..8], [0, 0, 0, 9, 0, 0, 0, 9]);
+    }
+}
+
+/// Places are offsets in the signature, and there are no bodies to cut off.
+#[test]
+fn plans_that_are_refused() {
+    for (signature, refusal) in [
+        (&[0x05, 0x09][..], Refusal::UnknownKind { place: 1 }),
+        (&[0x0A], Refusal::MisplacedMarker { place: 0 }),
+        (
+            &[0x05, 0x0A, 0x0B],
+            Refusal::MisplacedReturnPointer {
+                place: 2,
+                argument: 2,
+            },
+        ),
+        (
+            &[0x05; 33],
+            Refusal::TooManyArguments {
+                place: 32,
+                argument: 33,
+            },
+        ),
+        (
+            &[0xFF, 0xFF, 0x05],
+            Refusal::BeyondLimit {
+                place: 2,
+                argument: 3,
+            },
+        ),
+    ] {
+        for device in DEVICES {
+            assert_eq!(o32::make_plan(device, signature), Err(refusal));
+        }
+    }
+    let mut words = [0xA5A5_A5A5; PLAN_WORDS - 1];
+    let answer = raw::make_plan(Device::Fpu, &[0x05], &mut words);
+    assert_eq!((answer.refusal, answer.length), (7, 0));
+    assert_eq!(words, [0xA5A5_A5A5; PLAN_WORDS - 1]);
+}
+
+#[test]
+fn a_signature_leaves_the_bytes_behind_it() {
+    let mut buffer = [0xA5; 6];
+    assert_eq!(o32::signature(&mixed_list(1), &mut buffer), Ok(&MIXED[..]));
+    assert_eq!(buffer[5], 0xA5);
 }
 
 fn refusal_of_description(description: &[u8]) -> Refusal {
@@ -391,12 +558,36 @@ fn the_longest_list_fits_and_no_shorter_buffer_does() {
     );
 
     let signature = signature_of_longest();
+    let plan = o32::make_plan(Device::Fpu, &signature).unwrap();
+    assert_eq!(
+        o32::fill(Device::Fpu, &plan, &list, &mut [0; IMAGE_MAX]),
+        Ok(image)
+    );
+    assert_eq!(
+        o32::fill(Device::Fpu, &plan, &list, &mut [0; IMAGE_MAX - 1]),
+        Err(Refusal::ShortOutput)
+    );
     assert_eq!(
         o32::read(Device::Fpu, &signature, image, &mut [0; LIST_MAX]),
         Ok(&list[..])
     );
     assert_eq!(
         o32::read(Device::Fpu, &signature, image, &mut [0; LIST_MAX - 1]),
+        Err(Refusal::ShortOutput)
+    );
+}
+
+#[test]
+fn the_longest_signature_fits_and_no_shorter_buffer_does() {
+    let list = longest_list();
+    let signature = signature_of_longest();
+    assert_eq!(signature.len(), SIGNATURE_MAX);
+    assert_eq!(
+        o32::signature(&list, &mut [0; SIGNATURE_MAX]),
+        Ok(&signature[..])
+    );
+    assert_eq!(
+        o32::signature(&list, &mut [0; SIGNATURE_MAX - 1]),
         Err(Refusal::ShortOutput)
     );
 }
@@ -410,7 +601,7 @@ fn the_longest_bodies_fit_and_no_shorter_buffer_does() {
     // behind the floating registers and the homes.
     let expected = [&image[4..16], &image[48..]].concat();
     assert_eq!(expected.len(), BODIES_MAX);
-    for device in [Device::Fpu, Device::NoFpu] {
+    for device in DEVICES {
         assert_eq!(
             o32::walk(device, &signature, &image, &mut [0; BODIES_MAX]),
             Ok(&expected[..])
