@@ -12,7 +12,7 @@ use Rattle.kinds.specs.declared.Kind.{Kind}
 use Rattle.kinds.specs.Kinds.{kindOf, is}
 use Rattle.rules.specs.Rules.{nothing, misplaced, full, argument, extend}
 use Rattle.carried.specs.Convention.{Step, refuse, next, Convention}
-use Rattle.o32_offsets.specs.Offsets.{extension, width, offset, ending}
+use Rattle.o32_offsets.specs.Offsets.{extension, width, offset, layOne}
 use Rattle.o32.specs.declared.State.{State}
 use Rattle.o32.specs.declared.Placement.{Placement}
 
@@ -64,7 +64,7 @@ area end = max 16 (up 8 end)
 abbrev pub advance : State → Kind → State
 advance st k = record {
   prefix = extend (st .prefix) k;
-  end = cond (is Marker k) (st .end) (ending k (st .end));
+  end = layOne (st .end) k .end;
   floating = cond (is Marker k) (st .floating) (cond (eqb (st .prefix .count) 0) (is Float k) (st .floating));
 }
 

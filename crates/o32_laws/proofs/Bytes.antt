@@ -15,10 +15,10 @@ use Rattle.carried.specs.Carried.{kinds, Carried}
 use Rattle.carried.proofs.Carriers.{Among, Carrier, carrier-of, carrier-in, SameByte, carriers-same, kinds-append, length-kinds, OfKind, of-kind}
 use Rattle.o32.specs.declared.State.{State}
 use Rattle.kinds.specs.Kinds.{kindOf}
-use Rattle.o32_offsets.specs.Offsets.{width, offset, endOf}
+use Rattle.o32_offsets.specs.Offsets.{width}
 use Rattle.o32.specs.O32.{O32, area, start}
 use Rattle.rules.specs.Rules.{argument}
-use Rattle.o32_laws.specs.Carrying.{registerAfter, CarriedAt, KindIn, ArgumentByte, CarriedBy, CarriedByte}
+use Rattle.o32_laws.specs.Carrying.{registerAfter, CarriedAt, KindIn, offsetOf, ArgumentByte, CarriedBy, CarriedByte}
 use Rattle.o32_laws.proofs.Laws.{O32-carried}
 use Rattle.o32_laws.proofs.Carrying.{reach, placed-after, carried-at}
 
@@ -29,7 +29,7 @@ module _ (d : Device) (sig : List ℕ) (L : List Placed) (last : State) (ok : sc
   -- the record of an argument, placed by the kinds before it
   abbrev pub recordOf : KindIn sig → Placed
   recordOf a = O32 d .placedAt (a .kind) (argument (reach start (a .before) .prefix) (kindOf (a .kind)))
-      (record { kind = kindOf (a .kind); offset = offset (kindOf (a .kind)) (endOf 0 (a .before)); register = registerAfter d (a .before) (a .kind) })
+      (record { kind = kindOf (a .kind); offset = offsetOf a; register = registerAfter d (a .before) (a .kind) })
 
   pub record Of (a : KindIn sig) : Type 0 where
     pub among : Among L

@@ -21,11 +21,11 @@ use Rattle.kinds.specs.declared.Kind.{Kind}
 use Rattle.o32.specs.declared.State.{State}
 use Rattle.o32.specs.declared.Placement.{Placement}
 use Rattle.kinds.specs.Kinds.{kindOf, is}
-use Rattle.o32_offsets.specs.Offsets.{width, offset, ending, endOf}
+use Rattle.o32_offsets.specs.Offsets.{width, lay}
 use Rattle.o32.specs.O32.{floatRegister, register, floatRegisters, registerBytes, floatBytes, carrier, carriers, advance, placement, start, O32}
 use Rattle.rules.specs.Rules.{misplaced, argument}
 use Rattle.places.specs.Places.{run}
-use Rattle.o32_laws.specs.Carrying.{registerAfter, Carries, low, high, single, odd, even, CarriedAt, InRuns}
+use Rattle.o32_laws.specs.Carrying.{registerAfter, offsetAfter, Carries, low, high, single, odd, even, CarriedAt, InRuns}
 use Rattle.kinds.proofs.KindFacts.{kind-facts, structure}
 use Rattle.o32_offsets.proofs.Offsets.{unpromoted-width, float-width}
 use Rattle.o32_laws.proofs.Steps.{Stepped, Describes, describes}
@@ -39,16 +39,9 @@ abbrev pub reach : State → List ℕ → State
 reach st [] = st
 reach st (k ∷ ks) = reach (advance st (kindOf k)) ks
 
-advance-end : (st : State) (k : Kind) → advance st k .end ≡ cond (is Marker k) (st .end) (ending k (st .end))
-advance-end st k = go (is Marker k) refl
-  where
-    go : (t : Bool) → is Marker k ≡ t → advance st k .end ≡ cond (is Marker k) (st .end) (ending k (st .end))
-    go true e = rw e
-    go false e = rw e
-
-pub reach-end : (ks : List ℕ) (st : State) → reach st ks .end ≡ endOf (st .end) ks
+pub reach-end : (ks : List ℕ) (st : State) → reach st ks .end ≡ lay (st .end) ks .end
 reach-end [] st = refl
-reach-end (k ∷ ks) st = reach-end ks (advance st (kindOf k)) ∙ ap (λ (e : ℕ). endOf e ks) (advance-end st (kindOf k))
+reach-end (k ∷ ks) st = reach-end ks (advance st (kindOf k))
 
 -- a state in which no float gets a floating register any more
 abbrev Late : State → Type 0
@@ -186,6 +179,13 @@ floats-only Fpu (j ∷ []) k h = go (is Float (kindOf j)) (is Float (kindOf k)) 
     go false false h = absurd (omega arith)
 floats-only Fpu (j ∷ i ∷ js) k h = absurd (omega arith)
 
+-- after two kinds no float has a floating register
+pub register-late : (d : Device) (before : List ℕ) (k : ℕ) → 2 ≤ length before → registerAfter d before k ≡ 0
+register-late NoFpu before k h = refl
+register-late Fpu [] k h = absurd (omega arith)
+register-late Fpu (j ∷ []) k h = absurd (omega arith)
+register-late Fpu (j ∷ i ∷ js) k h = refl
+
 pub unfloated : (d : Device) (before : List ℕ) (k : ℕ) → is Float (kindOf k) ≡ false → registerAfter d before k ≡ 0
 unfloated d before k f = go (registerAfter d before k) refl
   where
@@ -196,28 +196,28 @@ unfloated d before k f = go (registerAfter d before k) refl
 -- ---- the law
 
 module _ (d : Device) (before : List ℕ) (k j : ℕ) (s : Placed)
-    (placed-as : s ≡ O32 d .placedAt k j (record { kind = kindOf k; offset = offset (kindOf k) (endOf 0 before); register = registerAfter d before k })) where
+    (placed-as : s ≡ O32 d .placedAt k j (record { kind = kindOf k; offset = offsetAfter before k; register = registerAfter d before k })) where
   abbrev cs : List ℕ
   cs = s .carriers
 
-  carriers-as : cs ≡ carriers (record { kind = kindOf k; offset = offset (kindOf k) (endOf 0 before); register = registerAfter d before k })
+  carriers-as : cs ≡ carriers (record { kind = kindOf k; offset = offsetAfter before k; register = registerAfter d before k })
   carriers-as = ap (λ (x : Placed). x .carriers) placed-as
 
-  by-offset : registerAfter d before k ≡ 0 → cs ≡ map carrier (run (offset (kindOf k) (endOf 0 before)) (width (kindOf k)))
+  by-offset : registerAfter d before k ≡ 0 → cs ≡ map carrier (run (offsetAfter before k) (width (kindOf k)))
   by-offset z = carriers-as ∙ rw z
 
   by-register : 1 ≤ registerAfter d before k → cs ≡ floatBytes (registerAfter d before k) (kindOf k .size)
   by-register h = carriers-as ∙ rw (ne-eqb (registerAfter d before k) 0 (λ e. omega arith))
 
   carried-long : (r : ℕ) → registerAfter d before k ≡ r → length cs ≡ width (kindOf k)
-  carried-long zero e = ap length (by-offset e) ∙ length-span (width (kindOf k)) (offset (kindOf k) (endOf 0 before))
+  carried-long zero e = ap length (by-offset e) ∙ length-span (width (kindOf k)) (offsetAfter before k)
   carried-long (suc r) e =
       let f : is Float (kindOf k) ≡ true = floats-only d before k (omega arith) in
       ap length (by-register (omega arith)) ∙ length-float (registerAfter d before k) (kindOf k .size) (kind-facts k .floats f) ∙ sym (float-width (kindOf k) f)
 
-  at-byte : registerAfter d before k ≡ 0 → (o i : ℕ) → o ≡ offset (kindOf k) (endOf 0 before) → i < length cs → getD cs i 0 ≡ carrier (o + i)
+  at-byte : registerAfter d before k ≡ 0 → (o i : ℕ) → o ≡ offsetAfter before k → i < length cs → getD cs i 0 ≡ carrier (o + i)
   at-byte z o i e h =
-      ap (λ (x : List ℕ). getD x i 0) (by-offset z) ∙ getD-span (width (kindOf k)) (offset (kindOf k) (endOf 0 before)) i (omega (arith, carried-long 0 z)) ∙ rw e
+      ap (λ (x : List ℕ). getD x i 0) (by-offset z) ∙ getD-span (width (kindOf k)) (offsetAfter before k) i (omega (arith, carried-long 0 z)) ∙ rw e
 
   -- byte i of word j of a float
   in-register : 1 ≤ registerAfter d before k → {n : ℕ} → kindOf k .size ≡ n → (j i p : ℕ) → j < length (floatRegisters (registerAfter d before k) n) → i < 4 → p ≡ 4 * j + i
@@ -234,20 +234,20 @@ module _ (d : Device) (before : List ℕ) (k j : ℕ) (s : Placed)
     carries-as : Carries d before k i (getD cs i 0)
     carries-as = go (registerAfter d before k) refl
       where
-        laid : registerAfter d before k ≡ 0 → (t : Bool) → ltb (offset (kindOf k) (endOf 0 before) + i) 16 ≡ t → Carries d before k i (getD cs i 0)
+        laid : registerAfter d before k ≡ 0 → (t : Bool) → ltb (offsetAfter before k + i) 16 ≡ t → Carries d before k i (getD cs i 0)
         laid z true e =
-            let h = ltb-true (offset (kindOf k) (endOf 0 before) + i) 16 e in
-            low z h (at-byte z _ i refl (omega (arith, carried-long 0 z)) ∙ carrier-low (offset (kindOf k) (endOf 0 before) + i) h)
+            let h = ltb-true (offsetAfter before k + i) 16 e in
+            low z h (at-byte z _ i refl (omega (arith, carried-long 0 z)) ∙ carrier-low (offsetAfter before k + i) h)
         laid z false e =
-            let h = ltb-false (offset (kindOf k) (endOf 0 before) + i) 16 e in
-            high z h (at-byte z _ i refl (omega (arith, carried-long 0 z)) ∙ carrier-high (offset (kindOf k) (endOf 0 before) + i) h)
+            let h = ltb-false (offsetAfter before k + i) 16 e in
+            high z h (at-byte z _ i refl (omega (arith, carried-long 0 z)) ∙ carrier-high (offsetAfter before k + i) h)
 
         pair : (f : ℕ) → registerAfter d before k ≡ suc f → kindOf k .size ≡ 8 → i < 8 → (t : Bool) → ltb i 4 ≡ t → Carries d before k i (getD cs i 0)
         pair f e z h true t = let g = ltb-true i 4 t in odd (omega arith) z g (in-register (omega arith) z 0 i i (omega arith) g (omega arith))
         pair f e z h false t = let g = ltb-false i 4 t in even (omega arith) z g (in-register (omega arith) z 1 (i - 4) i (omega arith) (omega arith) (omega arith))
 
         go : (f : ℕ) → registerAfter d before k ≡ f → Carries d before k i (getD cs i 0)
-        go zero e = laid e (ltb (offset (kindOf k) (endOf 0 before) + i) 16) refl
+        go zero e = laid e (ltb (offsetAfter before k + i) 16) refl
         go (suc f) e =
             let n = float-long (omega arith) in
             elim (kind-facts k .floats (floats-only d before k (omega arith))) [
@@ -257,8 +257,8 @@ module _ (d : Device) (before : List ℕ) (k j : ℕ) (s : Placed)
 
     -- and no other
     carries-only : (p : ℕ) → Carries d before k i p → getD cs i 0 ≡ p
-    carries-only p (low z h g) = at-byte z _ i refl (omega (arith, carried-long 0 z)) ∙ carrier-low (offset (kindOf k) (endOf 0 before) + i) h ∙ sym g
-    carries-only p (high z h g) = at-byte z _ i refl (omega (arith, carried-long 0 z)) ∙ carrier-high (offset (kindOf k) (endOf 0 before) + i) h ∙ sym g
+    carries-only p (low z h g) = at-byte z _ i refl (omega (arith, carried-long 0 z)) ∙ carrier-low (offsetAfter before k + i) h ∙ sym g
+    carries-only p (high z h g) = at-byte z _ i refl (omega (arith, carried-long 0 z)) ∙ carrier-high (offsetAfter before k + i) h ∙ sym g
     carries-only p (single h z g) = let n = float-long h in rw g (in-register h z 0 i i (omega arith) (omega arith) (omega arith))
     carries-only p (odd h z m g) = rw g (in-register h z 0 i i (omega arith) m (omega arith))
     carries-only p (even h z m g) = let n = float-long h in rw g (in-register h z 1 (i - 4) i (omega arith) (omega arith) (omega arith))
@@ -274,7 +274,7 @@ module _ (d : Device) (before : List ℕ) (k j : ℕ) (s : Placed)
 -- At every accepted signature, the record of every kind byte is placed by the kinds before,
 pub placed-after : (d : Device) (before : List ℕ) (k : ℕ) (after : List ℕ) (L : List Placed) (last : State) → scan (O32 d) false (before ++ (k ∷ after)) ≡ complete L last
     → (M : List Placed) (s : Placed) (N : List Placed) → L ≡ M ++ (s ∷ N) → length M ≡ length before
-    → s ≡ O32 d .placedAt k (argument (reach start before .prefix) (kindOf k)) (record { kind = kindOf k; offset = offset (kindOf k) (endOf 0 before); register = registerAfter d before k })
+    → s ≡ O32 d .placedAt k (argument (reach start before .prefix) (kindOf k)) (record { kind = kindOf k; offset = offsetAfter before k; register = registerAfter d before k })
 placed-after d before k after L last ok M s N e h =
     let w : Walk (O32 d) (O32-laws d) start (before ++ (k ∷ after)) L last = walk-of (O32 d) (O32-laws d) (before ++ (k ∷ after)) start L last 0 ok in
     record-placed d before start k after L last w M s N e h
@@ -293,8 +293,8 @@ structure-in-runs d before k after L last ok M s N e h = record {
   above = λ g o n x y l. cs g o n x y ∙ span-high n o l;
 }
   where
-    cs : 0x40 ≤ k → (o n : ℕ) → o ≡ offset (kindOf k) (endOf 0 before) → n ≡ kindOf k .size → s .carriers ≡ span o n
+    cs : 0x40 ≤ k → (o n : ℕ) → o ≡ offsetAfter before k → n ≡ kindOf k .size → s .carriers ≡ span o n
     cs g o n x y =
         by-offset d before k _ s (placed-after d before k after L last ok M s N e h)
         (unfloated d before k (structure k g .no-float))
-        ∙ rw (x, y) (ap (span (offset (kindOf k) (endOf 0 before))) (unpromoted-width (kindOf k) (structure k g .unpromoted)))
+        ∙ rw (x, y) (ap (span (offsetAfter before k)) (unpromoted-width (kindOf k) (structure k g .unpromoted)))

@@ -24,9 +24,9 @@ use Rattle.kinds.specs.declared.Class.the-variants.{Signed, Unsigned, Float}
 use Rattle.kinds.specs.declared.Kind.{Kind}
 use Rattle.o32.specs.declared.State.{State}
 use Rattle.kinds.specs.Kinds.{kindOf, is, classNumber}
-use Rattle.o32_offsets.specs.Offsets.{extension, width, offset, endOf}
+use Rattle.o32_offsets.specs.Offsets.{extension, width}
 use Rattle.o32.specs.O32.{O32, carrier}
-use Rattle.o32_laws.specs.Carrying.{registerAfter, KindIn}
+use Rattle.o32_laws.specs.Carrying.{registerAfter, KindIn, offsetOf}
 use Rattle.o32_laws.specs.Refusing.{argumentAfter, Improper, FirstImproper}
 use Rattle.o32_offsets.proofs.Offsets.{unpromoted-width}
 use Rattle.o32_laws.proofs.Carrying.{unfloated}
@@ -70,7 +70,7 @@ unextended k e = go (is Signed k) (is Unsigned k) refl refl e
 
 module _ (d : Device) (sig : List ℕ) (L : List Placed) (last : State) (ok : scan (O32 d) false sig ≡ complete L last) (img : List ℕ) where
   abbrev word : KindIn sig → List ℕ
-  word a = map carrier (run (offset (kindOf (a .kind)) (endOf 0 (a .before))) 4)
+  word a = map carrier (run (offsetOf a) 4)
 
   -- a kind that is promoted has its word by offset, and any other is proper
   word-test : (a : KindIn sig) → promoted (kindOf (a .kind)) ≡ true

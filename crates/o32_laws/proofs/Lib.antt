@@ -5,6 +5,7 @@ pub mod Carrying
 pub mod Bounds
 pub mod Numbering
 pub mod Bytes
+pub mod Groups
 pub mod Nothing
 pub mod Refusing
 pub mod Improper

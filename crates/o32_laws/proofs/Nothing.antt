@@ -1,84 +1,45 @@
 -- What carries nothing: each argument has the offsets from the end of those before to its own end, and of these only its own bytes are
 -- carried, if it has no floating register.
 -- Assumes nothing.
-use mathlib.Core.Path.{_≡_, refl, sym, ap, _∙_, subst}
+use mathlib.Core.Path.{_≡_, refl, sym, _∙_, subst}
 use mathlib.Core.Logic.{_⊎_, inl, inr}
-use mathlib.Core.List.{List, [], _∷_, _++_, append-assoc, append-nil}
+use mathlib.Core.List.{List, [], _∷_}
 use mathlib.Core.Bool.{Bool, true, false, cond, _&&_}
 use Prim.Native.Nat.{ℕ, zero, suc, _+_, _-_, _*_, _/_, _≤_, _<_}
 use native.Mathlib.Omega.{arith}
 use lib.ListN.{length}
 use lib.Dec.{ltb}
 use borrow.Author.Tests.{ltb-true, ltb-false}
-use Rattle.words.specs.Words.{up}
 use Rattle.device.specs.declared.Device.{Device}
 use Rattle.device.specs.declared.Device.the-variants.{Fpu, NoFpu}
 use Rattle.carried.specs.Image.{Placed, carried}
 use Rattle.places.specs.Places.{In}
 use Rattle.carried.specs.Convention.{complete, scan}
 use Rattle.places.proofs.Places.{in-or-not}
-use Rattle.carried.proofs.Splits.{Later, later, Same, same}
+use Rattle.carried.proofs.Splits.{Same, same}
 use Rattle.carried.proofs.Walks.{Walk, end, one, walk-of}
-use Rattle.kinds.specs.declared.Class.the-variants.{Unknown, Marker, Float}
+use Rattle.kinds.specs.declared.Class.the-variants.{Float}
 use Rattle.o32.specs.declared.State.{State}
 use Rattle.kinds.specs.Kinds.{kindOf, is}
-use Rattle.o32_offsets.specs.Offsets.{width, offset, ending, endOf}
+use Rattle.o32_offsets.specs.Offsets.{lay}
 use Rattle.o32.specs.O32.{O32, carrier, start}
 use Rattle.o32_laws.specs.Carrying.{registerAfter, low, high, single, odd, even, KindIn, endBefore, offsetOf, widthOf, ArgumentByte, CarriedBy, CarriedByte}
 use Rattle.o32_laws.specs.Nothing.{GivenTo, Empty, fill, hole, bypassed, unused, home, unused-float, EachByte}
 use Rattle.kinds.proofs.KindFacts.{kind-facts}
+use Rattle.o32_offsets.specs.Laying.{Known}
 use Rattle.o32_offsets.proofs.Offsets.{float-width, up-ge}
+use Rattle.o32_offsets.proofs.Laying.{marker, laid}
 use Rattle.o32_laws.proofs.Laws.{O32-laws}
-use Rattle.o32_laws.proofs.Steps.{step-described, marker-width, none-up}
+use Rattle.o32_laws.proofs.Steps.{step-described}
 use Rattle.o32_laws.proofs.Carrying.{floats-only}
 use Rattle.o32_laws.proofs.Bytes.{carried-exactly}
+use Rattle.o32_laws.proofs.Groups.{endAfter, argument-lies, ordered, all-end, Around, around}
 
--- ---- kinds that are known, and where they end
+-- ---- kinds that are known
 
-abbrev pub Known : List ℕ → Type 0
-Known [] = Unit {0}
-Known (k ∷ ks) = (is Unknown (kindOf k) ≡ false) × Known ks
-
-pub walk-known : (d : Device) {st last : State} {ks : List ℕ} {L : List Placed} → Walk (O32 d) (O32-laws d) st ks L last → Known ks
+walk-known : (d : Device) {st last : State} {ks : List ℕ} {L : List Placed} → Walk (O32 d) (O32-laws d) st ks L last → Known ks
 walk-known d end = tt
 walk-known d (one {st = st} {st′ = st′} {k = k} {j = j} {p = p} e f w) = (step-described d st k j p st′ e .known, walk-known d w)
-
-known-right : (xs ys : List ℕ) → Known (xs ++ ys) → Known ys
-known-right [] ys h = h
-known-right (x ∷ xs) ys h = known-right xs ys (h .1)
-
-known-left : (xs ys : List ℕ) → Known (xs ++ ys) → Known xs
-known-left [] ys h = tt
-known-left (x ∷ xs) ys h = (h .0, known-left xs ys (h .1))
-
--- where a kind ends that begins from here on
-abbrev next-end : ℕ → ℕ → ℕ
-next-end e k = cond (is Marker (kindOf k)) e (ending (kindOf k) e)
-
--- a marker has no bytes, and an argument begins where those before end, or later
-pub data Lies (e k : ℕ) : Type 0 where
-  marker : width (kindOf k) ≡ 0 → offset (kindOf k) e ≡ 0 → next-end e k ≡ e → Lies e k
-  laid : e ≤ offset (kindOf k) e → next-end e k ≡ offset (kindOf k) e + up 4 (width (kindOf k)) → Lies e k
-
-lies : (e k : ℕ) → is Unknown (kindOf k) ≡ false → Lies e k
-lies e k h = go (is Marker (kindOf k)) refl
-  where
-    go : (t : Bool) → is Marker (kindOf k) ≡ t → Lies e k
-    go true g =
-        let z : (kindOf k .size ≡ 0) × (kindOf k .alignment ≡ 0) = kind-facts k .markers g in
-        marker (marker-width (kindOf k) g (z .0)) (ap (λ (a : ℕ). up a e) (z .1) ∙ none-up e) (rw g refl)
-    go false g = laid (up-ge (kindOf k .alignment) e (kind-facts k .aligned (rw (h, g) refl))) (rw g refl)
-
-pub end-append : (xs ys : List ℕ) (e : ℕ) → endOf e (xs ++ ys) ≡ endOf (endOf e xs) ys
-end-append [] ys e = refl
-end-append (x ∷ xs) ys e = end-append xs ys (next-end e x)
-
-end-grows : (ks : List ℕ) (e : ℕ) → Known ks → e ≤ endOf e ks
-end-grows [] e h = omega arith
-end-grows (k ∷ ks) e h = elim (lies e k (h .0)) [
-  | marker w o n ↦ omega (arith, n, end-grows ks (next-end e k) (h .1))
-  | laid b n ↦ omega (arith, b, n, end-grows ks (next-end e k) (h .1))
-]
 
 -- ---- floating registers
 
@@ -165,32 +126,9 @@ module _ (d : Device) (sig : List ℕ) where
   at-carrier x e c = subst (CarriedByte d sig) e c
 
   module _ (known : Known sig) where
-    of-known : (a : KindIn sig) → Known (a .before ++ (a .kind ∷ a .after))
-    of-known a = subst Known (sym (a .here)) known
-
-    abbrev endAfter : KindIn sig → ℕ
-    endAfter a = next-end (endBefore a) (a .kind)
-
-    argument-lies : (a : KindIn sig) → Lies (endBefore a) (a .kind)
-    argument-lies a = lies (endBefore a) (a .kind) (known-right (a .before) (a .kind ∷ a .after) (of-known a) .0)
-
-    -- an earlier argument ends before a later one begins
-    ordered : (a b : KindIn sig) → length (a .before) < length (b .before) → endAfter a ≤ endBefore b
-    ordered a b h =
-        let w : Later (a .before) (a .kind) (b .before) = later (a .before) (a .kind) (a .after) (b .before) (b .kind) (b .after) (a .here ∙ sym (b .here)) h in
-        let e : endBefore b ≡ endOf (endAfter a) (w .between) = ap (endOf 0) (w .before) ∙ end-append (a .before) (a .kind ∷ w .between) 0 in
-        let n : Known (w .between) = known-right (a .before) (a .kind ∷ w .between) (subst Known (w .before) (known-left (b .before) (b .kind ∷ b .after) (of-known b))) .1 in
-        omega (arith, e, end-grows (w .between) (endAfter a) n)
-
-    -- and each ends before the end of all
-    all-end : (a : KindIn sig) → endAfter a ≤ endOf 0 sig
-    all-end a =
-        let e : endOf 0 sig ≡ endOf (endAfter a) (a .after) = ap (endOf 0) (sym (a .here)) ∙ end-append (a .before) (a .kind ∷ a .after) 0 in
-        omega (arith, e, end-grows (a .after) (endAfter a) (known-right (a .before) (a .kind ∷ a .after) (of-known a) .1))
-
     -- an argument's own bytes lie between the end of those before and its own end
     own-lies : {x : ℕ} (o : Own x) → (endBefore (o .argument) ≤ x) × (x < endAfter (o .argument))
-    own-lies o = elim (argument-lies (o .argument)) [
+    own-lies o = elim (argument-lies known (o .argument)) [
       | marker w z n ↦ absurd (omega (arith, o .from, o .before-end))
       | laid b n ↦ (omega (arith, b, o .from), omega (arith, n, o .before-end, up-ge 4 (widthOf (o .argument)) (omega arith)))
     ]
@@ -205,8 +143,8 @@ module _ (d : Device) (sig : List ℕ) where
           where
             orders : (t u : Bool) → ltb (length (a .before)) (length (o .argument .before)) ≡ t → ltb (length (o .argument .before)) (length (a .before)) ≡ u
                 → (registerAfter d (a .before) (a .kind) ≡ 0) × (offsetOf a ≤ x) × (x < offsetOf a + widthOf a)
-            orders true u e f = absurd (omega (arith, ordered a (o .argument) (ltb-true (length (a .before)) (length (o .argument .before)) e), own-lies o))
-            orders false true e f = absurd (omega (arith, ordered (o .argument) a (ltb-true (length (o .argument .before)) (length (a .before)) f), own-lies o))
+            orders true u e f = absurd (omega (arith, ordered known a (o .argument) (ltb-true (length (a .before)) (length (o .argument .before)) e), own-lies o))
+            orders false true e f = absurd (omega (arith, ordered known (o .argument) a (ltb-true (length (o .argument .before)) (length (a .before)) f), own-lies o))
             orders false false e f =
                 let n : length (a .before) ≡ length (o .argument .before) =
                 omega (arith, ltb-false (length (a .before)) (length (o .argument .before)) e, ltb-false (length (o .argument .before)) (length (a .before)) f) in
@@ -214,19 +152,19 @@ module _ (d : Device) (sig : List ℕ) where
                 rw (s .before-same, s .here-same) (o .unfloated, o .from, o .before-end)
 
     never-both : (p : ℕ) → Empty d sig p → CarriedByte d sig p → ⊥
-    never-both p (fill a x h g e) c = elim (argument-lies a) [
+    never-both p (fill a x h g e) c = elim (argument-lies known a) [
       | marker w z n ↦ omega (arith, w, z)
       | laid b n ↦ omega (arith, only a x (omega (arith, b)) (omega (arith, n)) (at-carrier x e c) .2)
     ]
-    never-both p (hole a x h g e) c = elim (argument-lies a) [
+    never-both p (hole a x h g e) c = elim (argument-lies known a) [
       | marker w z n ↦ omega (arith, z)
       | laid b n ↦ omega (arith, only a x h (omega (arith, n)) (at-carrier x e c) .1)
     ]
-    never-both p (bypassed a x r h g e) c = elim (argument-lies a) [
+    never-both p (bypassed a x r h g e) c = elim (argument-lies known a) [
       | marker w z n ↦ omega (arith, w)
       | laid b n ↦ omega (arith, only a x (omega (arith, b)) (omega (arith, n, up-ge 4 (widthOf a) (omega arith))) (at-carrier x e c) .0)
     ]
-    never-both p (unused x h e) c = let o : Own x = own x (at-carrier x e c) in omega (arith, own-lies o, all-end (o .argument))
+    never-both p (unused x h e) c = let o : Own x = own x (at-carrier x e c) in omega (arith, own-lies o, all-end known (o .argument))
     never-both p (home h g) c = elim (where-is (c .0) p (c .1)) [
       | at-offset x z e q ↦ elim (carrier-cases x) [ inl y ↦ omega arith | inr y ↦ omega arith ]
       | in-float f w r s ↦ omega arith
@@ -237,21 +175,6 @@ module _ (d : Device) (sig : List ℕ) where
     ]
 
     -- ---- and nothing else is
-
-    -- the kind whose offsets have this one
-    record Around (x : ℕ) : Type 0 where
-      argument : KindIn sig
-      from : endBefore argument ≤ x
-      before-end : x < endAfter argument
-
-    around : (ks before : List ℕ) (x : ℕ) → before ++ ks ≡ sig → endOf 0 before ≤ x → x < endOf 0 sig → Around x
-    around [] before x e h g = let z : endOf 0 before ≡ endOf 0 sig = ap (endOf 0) (sym (append-nil before) ∙ e) in absurd (omega arith)
-    around (k ∷ ks) before x e h g = go (ltb x (next-end (endOf 0 before) k)) refl
-        (around ks (before ++ (k ∷ [])) x (append-assoc before (k ∷ []) ks ∙ e))
-      where
-        go : (t : Bool) → ltb x (next-end (endOf 0 before) k) ≡ t → (endOf 0 (before ++ (k ∷ [])) ≤ x → x < endOf 0 sig → Around x) → Around x
-        go true f rest = record { argument = record { before = before; kind = k; after = ks; here = e }; from = h; before-end = ltb-true x (next-end (endOf 0 before) k) f }
-        go false f rest = rest (omega (arith, end-append before (k ∷ []) 0, ltb-false x (next-end (endOf 0 before) k) f)) g
 
     -- a byte of an argument by its offset
     own-byte : (a : KindIn sig) (x : ℕ) → registerAfter d (a .before) (a .kind) ≡ 0 → offsetOf a ≤ x → x < offsetOf a + widthOf a → CarriedByte d sig (carrier x)
@@ -286,19 +209,19 @@ module _ (d : Device) (sig : List ℕ) where
         go : (t u : Bool) → ltb x (offsetOf a) ≡ t → ltb x (offsetOf a + widthOf a) ≡ u → CarriedByte d sig p ⊎ Empty d sig p
         go true u i j = inr (hole a x h (ltb-true x (offsetOf a) i) e)
         go false true i j = by-register (registerAfter d (a .before) (a .kind)) refl (ltb-false x (offsetOf a) i) (ltb-true x (offsetOf a + widthOf a) j)
-        go false false i j = elim (argument-lies a) [
+        go false false i j = elim (argument-lies known a) [
           | marker w z n ↦ absurd (omega (arith, n))
           | laid b n ↦ inr (fill a x (ltb-false x (offsetOf a + widthOf a) j) (omega (arith, n)) e)
         ]
 
     at-an-offset : (p x : ℕ) → p ≡ carrier x → CarriedByte d sig p ⊎ Empty d sig p
-    at-an-offset p x e = go (ltb x (endOf 0 sig)) refl
+    at-an-offset p x e = go (ltb x (lay 0 sig .end)) refl
       where
-        go : (t : Bool) → ltb x (endOf 0 sig) ≡ t → CarriedByte d sig p ⊎ Empty d sig p
+        go : (t : Bool) → ltb x (lay 0 sig .end) ≡ t → CarriedByte d sig p ⊎ Empty d sig p
         go true f =
-            let o : Around x = around sig [] x refl (omega arith) (ltb-true x (endOf 0 sig) f) in
+            let o : Around sig x = around sig [] x refl (omega arith) (ltb-true x (lay 0 sig .end) f) in
             in-argument p x e (o .argument) (o .from) (o .before-end)
-        go false f = inr (unused x (ltb-false x (endOf 0 sig) f) e)
+        go false f = inr (unused x (ltb-false x (lay 0 sig .end) f) e)
 
     -- a byte of a floating word is carried, or no argument is given its register
     in-a-float : (p : ℕ) → 16 ≤ p → p < 32 → CarriedByte d sig p ⊎ (CarriedByte d sig p → ⊥) → CarriedByte d sig p ⊎ Empty d sig p

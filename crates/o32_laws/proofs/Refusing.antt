@@ -22,7 +22,8 @@ use Rattle.kinds.specs.declared.Kind.{Kind}
 use Rattle.o32.specs.declared.State.{State}
 use Rattle.o32.specs.declared.Placement.{Placement}
 use Rattle.kinds.specs.Kinds.{kindOf, is, classNumber}
-use Rattle.o32_offsets.specs.Offsets.{ending, endOf}
+use Rattle.o32_offsets.specs.Offsets.{layOne, lay}
+use Rattle.o32_offsets.proofs.Laying.{end-joined}
 use Rattle.rules.specs.Rules as R
 use Rattle.o32.specs.O32.{advance, placement, start, O32}
 use Rattle.rules.specs.Rules.{argument}
@@ -152,7 +153,7 @@ module _ (d : Device) {ks : List ℕ} {L : List Placed} {last : State} (w : Walk
   count-is : last .prefix .count ≡ argumentsIn ks
   count-is = ap (λ (s : State). s .prefix .count) (walk-reach d w) ∙ reach-count start ks ∙ omega arith
 
-  pub end-is : last .end ≡ endOf 0 ks
+  pub end-is : last .end ≡ lay 0 ks .end
   end-is = ap (λ (s : State). s .end) (walk-reach d w) ∙ reach-end ks start
 
   counts-after : After d start ks last
@@ -194,8 +195,8 @@ module _ (d : Device) {ks : List ℕ} {L : List Placed} {last : State} (w : Walk
       untrue : (b : Bool) → b ≡ false → b ≡ true → ⊥
       untrue b e f = clash (sym e ∙ f)
 
-      advance-end : is Marker (kindOf k) ≡ false → advance last (kindOf k) .end ≡ ending (kindOf k) (endOf 0 ks)
-      advance-end e = rw (e, end-is) refl
+      advance-end : advance last (kindOf k) .end ≡ lay 0 (ks ++ (k ∷ [])) .end
+      advance-end = ap (λ (e : ℕ). layOne e (kindOf k) .end) end-is ∙ sym (end-joined 0 ks (k ∷ []))
 
       tests-passed : (r : ℕ) → (1 < r → is Unknown (kindOf k) ≡ false) → (2 < r → R.misplaced (last .prefix) (kindOf k) ≡ false) → (3 < r → R.full (last .prefix) (kindOf k) ≡ false)
           → (4 < r → ltb left (bodyLength bodies (kindOf k .size)) ≡ false) → (5 < r → leb (advance last (kindOf k) .end) 1024 ≡ true) → Passed r
@@ -205,7 +206,7 @@ module _ (d : Device) {ks : List ℕ} {L : List Placed} {last : State} (w : Walk
       tests-passed r a b c e f q h (full x y z) =
           omega (arith, count-is, leb-false 32 (last .prefix .count) (not-full (is Marker (kindOf k)) (leb 32 (last .prefix .count)) (c (omega arith)) y))
       tests-passed r a b c e f q h (cut x y z) = let i : ltb left (kindOf k .size) ≡ false = rw y at (e (omega arith)) in omega (arith, ltb-false left (kindOf k .size) i)
-      tests-passed r a b c e f q h (beyond x y z) = omega (arith, leb-true (advance last (kindOf k) .end) 1024 (f (omega arith)), advance-end y)
+      tests-passed r a b c e f q h (beyond x y z) = omega (arith, leb-true (advance last (kindOf k) .end) 1024 (f (omega arith)), advance-end)
 
       abbrev Judged : Step Placement State → Type 0
       Judged (refuse r j) = Condition bodies ks k left r × Passed r × (j ≡ argumentAfter ks k)
@@ -226,7 +227,7 @@ module _ (d : Device) {ks : List ℕ} {L : List Placed} {last : State} (w : Walk
       is-beyond true e f =
           let z : advance last (kindOf k) .end ≡ last .end = rw e refl in
           absurd (omega (arith, within, leb-false (advance last (kindOf k) .end) 1024 f))
-      is-beyond false e f = beyond refl e (omega (arith, advance-end e, leb-false (advance last (kindOf k) .end) 1024 f))
+      is-beyond false e f = beyond refl e (omega (arith, advance-end, leb-false (advance last (kindOf k) .end) 1024 f))
 
       judged : Judged (taken (O32 d) bodies left last k)
       judged = go (is Unknown (kindOf k)) (R.misplaced (last .prefix) (kindOf k)) (R.full (last .prefix) (kindOf k)) refl refl refl

@@ -6,9 +6,7 @@ use mathlib.Core.Logic.{_⊎_, inl, inr}
 use mathlib.Core.Bool.{Bool, true, false, cond, not, _&&_}
 use Prim.Native.Nat.{ℕ, _+_, _%_, _≤_}
 use native.Mathlib.Omega.{arith}
-use native.Mathlib.Nat.{mul-zero}
 use lib.Dec.{eqb}
-use borrow.Author.Tests.{eqb-true}
 use Rattle.device.specs.declared.Device.{Device}
 use Rattle.device.specs.declared.Device.the-variants.{Fpu, NoFpu}
 use Rattle.carried.specs.Convention.{Step, refuse, next}
@@ -16,13 +14,13 @@ use Rattle.kinds.specs.declared.Class.the-variants.{Unknown, Marker, Float}
 use Rattle.kinds.specs.declared.Kind.{Kind}
 use Rattle.o32.specs.declared.State.{State}
 use Rattle.o32.specs.declared.Placement.{Placement}
-use Rattle.kinds.specs.Kinds.{kindOf, is, classNumber}
+use Rattle.kinds.specs.Kinds.{kindOf, is}
 use Rattle.words.specs.Words.{up}
 use Rattle.o32_offsets.specs.Offsets.{width, offset}
 use Rattle.o32.specs.O32.{floatRegister, register, advance, placement, stepped, O32}
 use Rattle.rules.specs.Rules.{misplaced, full, argument}
 use Rattle.kinds.proofs.KindFacts.{kind-facts}
-use Rattle.o32_offsets.proofs.Offsets.{up-ge}
+use Rattle.o32_offsets.proofs.Offsets.{up-ge, none-up, marker-width}
 
 pub record Stepped (d : Device) (st : State) (k : Kind) (j : ℕ) (p : Placement) (st′ : State) : Type 0 where
   pub number : j ≡ argument (st .prefix) k
@@ -50,13 +48,6 @@ pub step-described : (d : Device) (st : State) (k j : ℕ) (p : Placement) (st�
 step-described d st k j p st′ e = subst (Describes d st (kindOf k)) e (describes d st (kindOf k))
 
 -- ---- where a record ends
-
--- a marker's width is 0
-pub marker-width : (k : Kind) → is Marker k ≡ true → k .size ≡ 0 → width k ≡ 0
-marker-width k e z = rw (eqb-true (classNumber (k .class)) 1 e, z)
-
-pub none-up : (n : ℕ) → up 0 n ≡ 0
-none-up n = mul-zero _
 
 -- a record's bytes end where its state does; a marker has none, at offset 0
 pub ends-within : (st : State) (k : ℕ) → offset (kindOf k) (st .end) + width (kindOf k) ≤ advance st (kindOf k) .end

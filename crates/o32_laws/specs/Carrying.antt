@@ -10,7 +10,7 @@ use Rattle.device.specs.declared.Device.the-variants.{Fpu, NoFpu}
 use Rattle.carried.specs.Image.{Placed}
 use Rattle.kinds.specs.declared.Class.the-variants.{Float}
 use Rattle.kinds.specs.Kinds.{kindOf, is}
-use Rattle.o32_offsets.specs.Offsets.{extension, width, offset, endOf}
+use Rattle.o32_offsets.specs.Offsets.{extension, width, offset, lay}
 use Rattle.places.specs.Places.{run}
 use Rattle.o32.specs.O32.{area}
 
@@ -25,7 +25,7 @@ registerAfter Fpu (j ∷ i ∷ js) k = 0
 
 -- Rule 2. The offset of a kind after these.
 abbrev pub offsetAfter : List ℕ → ℕ → ℕ
-offsetAfter before k = offset (kindOf k) (endOf 0 before)
+offsetAfter before k = offset (kindOf k) (lay 0 before .end)
 
 -- Image byte p carries byte i of the argument of kind k after these kinds.
 pub data Carries (d : Device) (before : List ℕ) (k i p : ℕ) : Type 0 where
@@ -58,7 +58,7 @@ pub record KindIn (sig : List ℕ) : Type 0 where
 -- offset is not used.)
 module _ {sig : List ℕ} (a : KindIn sig) where
   abbrev pub endBefore : ℕ
-  endBefore = endOf 0 (a .before)
+  endBefore = lay 0 (a .before) .end
 
   abbrev pub offsetOf : ℕ
   offsetOf = offsetAfter (a .before) (a .kind)
@@ -81,7 +81,7 @@ CarriedByte d sig p = (b : ArgumentByte sig) × CarriedBy d b p
 
 -- The length of an image of arguments of these kinds, "32 + A", and of a list: a kind byte and a body for each.
 abbrev pub imageBytes : List ℕ → ℕ
-imageBytes ks = 32 + area (endOf 0 ks)
+imageBytes ks = 32 + area (lay 0 ks .end)
 
 abbrev pub listBytes : List ℕ → ℕ
 listBytes [] = 0
@@ -90,7 +90,7 @@ listBytes (k ∷ ks) = 1 + kindOf k .size + listBytes ks
 -- Request (iii) of document 02, of a structure (kinds 40 to FF): "of a structure at offset o below 16, the first 16 - o bytes (all,
 -- if fewer) lie together from image byte o and the rest from 48; from o = 16 on, all lie from 32 + o."
 pub record InRuns (before : List ℕ) (k : ℕ) (s : Placed) : Type 0 where
-  pub below : 0x40 ≤ k → (o n : ℕ) → o ≡ offset (kindOf k) (endOf 0 before) → n ≡ kindOf k .size → o < 16
+  pub below : 0x40 ≤ k → (o n : ℕ) → o ≡ offsetAfter before k → n ≡ kindOf k .size → o < 16
       → s .carriers ≡ run o (min (16 - o) n) ++ run 48 (n - (16 - o))
-  pub above : 0x40 ≤ k → (o n : ℕ) → o ≡ offset (kindOf k) (endOf 0 before) → n ≡ kindOf k .size → 16 ≤ o
+  pub above : 0x40 ≤ k → (o n : ℕ) → o ≡ offsetAfter before k → n ≡ kindOf k .size → 16 ≤ o
       → s .carriers ≡ run (32 + o) n

@@ -7,7 +7,7 @@ use Rattle.words.specs.Words.{up}
 use Rattle.device.specs.declared.Device.{Device}
 use Rattle.kinds.specs.Kinds.{kindOf}
 use Rattle.o32.specs.O32.{carrier}
-use Rattle.o32_offsets.specs.Offsets.{endOf}
+use Rattle.o32_offsets.specs.Offsets.{lay}
 use Rattle.o32_laws.specs.Carrying.{registerAfter, KindIn, endBefore, offsetOf, widthOf, CarriedByte, imageBytes}
 
 -- Rule 3 gives floating register g to this argument: its register, and to a double also the next one.
@@ -25,7 +25,7 @@ pub data Empty (d : Device) (sig : List ℕ) (p : ℕ) : Type 0 where
   -- it lies where a float would by its offset, and rule 3 puts that float in a floating register
   bypassed : (a : KindIn sig) (x : ℕ) → 1 ≤ registerAfter d (a .before) (a .kind) → offsetOf a ≤ x → x < offsetOf a + widthOf a → p ≡ carrier x → Empty d sig p
   -- it lies after the last argument: in an unused register, or in the rest of the area
-  unused : (x : ℕ) → endOf 0 sig ≤ x → p ≡ carrier x → Empty d sig p
+  unused : (x : ℕ) → lay 0 sig .end ≤ x → p ≡ carrier x → Empty d sig p
   -- it is in the home of one of `$4` to `$7`
   home : 32 ≤ p → p < 48 → Empty d sig p
   -- it is in the word of a floating register that rule 3 gives to no argument, as `$f13` beside a single in `$f12`

@@ -11,7 +11,7 @@ use Rattle.carried.specs.Convention.{bodyLength}
 use Rattle.kinds.specs.declared.Class.{Class}
 use Rattle.kinds.specs.declared.Class.the-variants.{Unknown, Marker, Pointer, Signed, Unsigned}
 use Rattle.kinds.specs.Kinds.{kindOf, is}
-use Rattle.o32_offsets.specs.Offsets.{extension, ending, endOf}
+use Rattle.o32_offsets.specs.Offsets.{extension, lay}
 use Rattle.o32.specs.O32.{carrier}
 use Rattle.carried.specs.Calls.{Result, Functions}
 use Rattle.o32_laws.specs.Carrying.{KindIn, offsetOf, imageBytes, listBytes}
@@ -49,7 +49,7 @@ pub data Condition (bodies : Bool) (before : List ℕ) (k left r : ℕ) : Type 0
   -- "body cut off (lists only)"
   cut : r ≡ 4 → bodies ≡ true → left < kindOf k .size → Condition bodies before k left r
   -- "this argument ends beyond 1,024"
-  beyond : r ≡ 5 → is Marker (kindOf k) ≡ false → 1024 < ending (kindOf k) (endOf 0 before) → Condition bodies before k left r
+  beyond : r ≡ 5 → is Marker (kindOf k) ≡ false → 1024 < lay 0 (before ++ (k ∷ [])) .end → Condition bodies before k left r
 
 -- These bytes are whole records of these kinds, end to end: a kind byte each and, in a list (true), its body.
 abbrev pub Records : Bool → List ℕ → List ℕ → Type 0

@@ -8,7 +8,7 @@ use native.Mathlib.Omega.{arith}
 use native.Mathlib.Nat.{div-add-mod', div-mul-le-self, mod-lt, mul-zero}
 use borrow.Author.Tests.{eqb-true}
 use Rattle.words.specs.Words.{up}
-use Rattle.kinds.specs.declared.Class.the-variants.{Signed, Unsigned, Float}
+use Rattle.kinds.specs.declared.Class.the-variants.{Marker, Signed, Unsigned, Float}
 use Rattle.kinds.specs.declared.Kind.{Kind}
 use Rattle.kinds.specs.Kinds.{classNumber, is}
 use Rattle.kinds.proofs.Classes.{class-is}
@@ -29,8 +29,11 @@ up-eight a n e = rw e
 pub up-four : (a n : ℕ) → a ≡ 4 → (n + 3) / 4 * 4 ≡ up a n
 up-four a n e = rw e
 
+pub none-up : (n : ℕ) → up 0 n ≡ 0
+none-up n = mul-zero _
+
 pub up-none : (a n : ℕ) → Alignment a → (a ≡ 8 → ⊥) → (a ≡ 4 → ⊥) → 0 ≡ up a n
-up-none a n (inl e) f g = rw e (sym (mul-zero _))
+up-none a n (inl e) f g = rw e (sym (none-up n))
 up-none a n (inr (inl e)) f g = absurd (g e)
 up-none a n (inr (inr e)) f g = absurd (f e)
 
@@ -40,6 +43,10 @@ up-small a n (inr (inl e)) = omega (arith, up-le a n)
 up-small a n (inr (inr e)) = omega (arith, up-le a n)
 
 -- ---- bytes after promotion
+
+-- a marker's width is 0
+pub marker-width : (k : Kind) → is Marker k ≡ true → k .size ≡ 0 → width k ≡ 0
+marker-width k e z = rw (eqb-true (classNumber (k .class)) 1 e, z)
 
 pub unpromoted-width : (k : Kind) → is Signed k || is Unsigned k ≡ false → width k ≡ k .size
 unpromoted-width k e = rw e

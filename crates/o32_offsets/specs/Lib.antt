@@ -1,1 +1,2 @@
 pub mod Offsets
+pub mod Laying

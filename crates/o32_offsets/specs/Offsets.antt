@@ -1,7 +1,7 @@
--- Placement rules 1 and 2: the bytes of an argument, and its offset. Nothing here knows of registers.
+-- Placement rules 1 and 2: the bytes of an argument, its offset, and where arguments lie in order. Nothing here knows of registers.
 use mathlib.Core.Path.{_≡_}
 use mathlib.Core.Logic.{_⊎_}
-use mathlib.Core.List.{List, [], _∷_}
+use mathlib.Core.List.{List, [], _∷_, _++_}
 use mathlib.Core.Bool.{true, false, cond, _||_}
 use Prim.Native.Nat.{ℕ, _+_}
 use Rattle.words.specs.Words.{up, Extension, zeros, toWord}
@@ -26,10 +26,23 @@ offset k end = up (k .alignment) end
 abbrev pub ending : Kind → ℕ → ℕ
 ending k end = offset k end + up 4 (width k)
 
--- Rule 2. Where arguments of these kinds end, if those before them end here. A marker is no argument.
-abbrev pub endOf : ℕ → List ℕ → ℕ
-endOf end [] = end
-endOf end (k ∷ ks) = endOf (cond (is Marker (kindOf k)) end (ending (kindOf k) end)) ks
+-- Where arguments lie: their offsets, in order, and where the last one ends (the start, where there is none).
+pub record ArgumentLayout : Type 0 where
+  pub offsets : List ℕ
+  pub end : ℕ
+
+-- Rule 2 of one kind, from the end of the arguments before it. A marker is no argument and lays nothing.
+abbrev pub layOne : ℕ → Kind → ArgumentLayout
+layOne start k = record { offsets = cond (is Marker k) [] (offset k start ∷ []); end = cond (is Marker k) start (ending k start) }
+
+-- A layout and then another: the offsets of both, and the end of the second.
+abbrev pub followedBy : ArgumentLayout → ArgumentLayout → ArgumentLayout
+followedBy x y = record { offsets = x .offsets ++ y .offsets; end = y .end }
+
+-- Rule 2 of kinds in order, from a start on: each from the end of those before it.
+abbrev pub lay : ℕ → List ℕ → ArgumentLayout
+lay start [] = record { offsets = []; end = start }
+lay start (k ∷ ks) = followedBy (layOne start (kindOf k)) (lay (layOne start (kindOf k) .end) ks)
 
 -- The alignments there are: 4, 8, or none.
 abbrev pub Alignment : ℕ → Type 0

@@ -1,7 +1,7 @@
 -- Laws of a plan's entries: of joined kinds, how many there are, and that no two plans have the same numbers.
 -- Assumes nothing.
 use mathlib.Core.Path.{_≡_, refl, sym, ap, _∙_}
-use mathlib.Core.List.{List, [], _∷_, _++_, append-nil, append-assoc}
+use mathlib.Core.List.{List, [], _∷_, _++_, map, append-nil, append-assoc}
 use mathlib.Core.Bool.{Bool, true, false, cond}
 use Prim.Native.Nat.{ℕ, suc, _+_, _-_, _*_, _≤_, _<_}
 use native.Mathlib.Omega.{arith}
@@ -15,6 +15,8 @@ use Rattle.carried.specs.Image.{Placed}
 use Rattle.carried.specs.Convention.{complete, scan}
 use Rattle.carried.specs.Carried.{kinds}
 use Rattle.carried.proofs.Walks.{Walk, end, one, walk-by-kinds}
+use Rattle.o32_offsets.specs.Offsets.{offset, layOne, lay}
+use Rattle.o32_offsets.proofs.Laying.{end-joined}
 use Rattle.o32.specs.declared.State.{State}
 use Rattle.o32.specs.declared.Placement.{Placement}
 use Rattle.o32.specs.O32.{O32, advance, start, area}
@@ -54,6 +56,17 @@ entries-count d before (k ∷ ks) = go (is Marker (kindOf k)) refl (entries-coun
     go : (t : Bool) → is Marker (kindOf k) ≡ t → length (entriesAfter d (before ++ (k ∷ [])) ks) ≡ argumentsIn ks → length (entriesAfter d before (k ∷ ks)) ≡ argumentsIn (k ∷ ks)
     go true e h = rw e (omega arith)
     go false e h = rw e (omega arith)
+
+-- their offsets are those that the kinds lay, from where those before end
+pub entries-laid : (d : Device) (before ks : List ℕ) → map (λ (e : Entry). e .offset) (entriesAfter d before ks) ≡ lay (lay 0 before .end) ks .offsets
+entries-laid d before [] = refl
+entries-laid d before (k ∷ ks) = go (is Marker (kindOf k)) refl (entries-laid d (before ++ (k ∷ [])) ks ∙ ap (λ (n : ℕ). lay n ks .offsets) (end-joined 0 before (k ∷ [])))
+  where
+    go : (t : Bool) → is Marker (kindOf k) ≡ t
+        → map (λ (e : Entry). e .offset) (entriesAfter d (before ++ (k ∷ [])) ks) ≡ lay (layOne (lay 0 before .end) (kindOf k) .end) ks .offsets
+        → map (λ (e : Entry). e .offset) (entriesAfter d before (k ∷ ks)) ≡ lay (lay 0 before .end) (k ∷ ks) .offsets
+    go true e h = rw e (rw e at h)
+    go false e h = rw e (ap (λ (x : List ℕ). offset (kindOf k) (lay 0 before .end) ∷ x) (rw e at h))
 
 -- ---- 32 of them
 

@@ -1,11 +1,12 @@
 -- The pair answers as the writer does, for every list and the plan of its signature; and a plan by value is the same plan.
 -- Assumes nothing.
 use mathlib.Core.Path.{_≡_, refl, sym, ap, _∙_, subst}
-use mathlib.Core.List.{List, [], _∷_}
+use mathlib.Core.List.{List, [], _∷_, map}
 use mathlib.Core.Bool.{true, false}
 use Prim.Native.Nat.{ℕ, _≤_}
 use native.Mathlib.Omega.{arith}
 use lib.ListN.{length, replicate}
+use lib.Seq.{take-append-seam}
 use borrow.Author.Tests.{le-ltb}
 use Rattle.device.specs.declared.Device.{Device}
 use Rattle.answers.specs.Outcomes.{Outcome, done, answerOf, bufferOf}
@@ -23,10 +24,11 @@ use Rattle.o32_laws.specs.Refusing.{Refusals}
 use Rattle.o32_laws.specs.Demand.{Demand}
 use Rattle.o32_laws.proofs.Demand.{demand}
 use Rattle.o32_laws.proofs.Refusals.{refusals, signature-accepted}
-use Rattle.plans.specs.Plans.{planOf, makePlan, numbers, makeInto, fillInto, signatureInto}
+use Rattle.plans.specs.declared.Entry.{Entry}
+use Rattle.plans.specs.Plans.{entriesAfter, planOf, makePlan, numbers, makeInto, fillInto, signatureInto}
 use Rattle.plans.specs.Pair as P
 use Rattle.plans.specs.Pair.{Pair, pairOf, PlanRoom, SignatureRoom, HasSignature, Pairs, byPlan, Demands, ByValue, fillerOf}
-use Rattle.plans.proofs.Entries.{kinds-few, numbers-injective}
+use Rattle.plans.proofs.Entries.{entries-laid, kinds-few, numbers-injective}
 use Rattle.plans.proofs.Refusals.{alike, records-one, entries-32, numbers-98, planned, is-plan, plan-is, filled-accepted, make-refuses-when, fill-refuses-when, signature-refuses-when}
 
 -- A plan that is that of the list's kinds, where the list is accepted, lets fill answer as the writer does, whatever the list.
@@ -157,6 +159,8 @@ module _ (d : Device) where
         (λ v. ap numbers (planned d false v) ∙ sym (made-numbers sig lent h v .2));
     zero = λ sig h. by-scan sig (λ r place j n e. rw e) (λ v. absurd (let q : 1 ≤ 0 = rw (accepted-scanned d false sig sig v .scanned) at h in omega arith));
     entries = λ sig. by-scan sig (λ r place j n e. rw e) (λ v. rw (planned d false v) (entries-32 d v));
+    entries-laid = λ sig z. by-scan sig (λ r place j n e. absurd (let q : r ≡ 0 = rw e at z in omega arith))
+        (λ v. rw (planned d false v) (ap (map (λ (e : Entry). e .offset)) (take-append-seam (entriesAfter d [] sig) _) ∙ entries-laid d [] sig));
     fills = λ q list out. refl;
     answers-alike = λ sig list out s.
         fills (numbers (makePlan d false sig .plan)) list out (λ ks v.

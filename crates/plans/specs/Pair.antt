@@ -2,18 +2,20 @@
 -- request (vii) of document 02.
 use mathlib.Core.Path.{_≡_}
 use mathlib.Core.Logic.{_↔_}
-use mathlib.Core.List.{List, _∷_, _++_}
+use mathlib.Core.List.{List, _∷_, _++_, map}
 use mathlib.Core.Bool.{true, false}
 use Prim.Native.Nat.{ℕ, _+_, _≤_, _<_}
-use lib.ListN.{length, getD, replicate}
+use lib.ListN.{length, getD, take, replicate}
 use Rattle.device.specs.declared.Device.{Device}
 use Rattle.answers.specs.Outcomes.{Outcome, answerOf, bufferOf}
 use Rattle.carried.specs.Calls.{Result, resultOf, output, Functions}
 use Rattle.kinds.specs.declared.Class.the-variants.{Marker}
 use Rattle.kinds.specs.Kinds.{kindOf, is}
+use Rattle.o32_offsets.specs.Offsets.{lay}
 use Rattle.o32_laws.specs.Carrying.{registerAfter, offsetAfter, imageBytes}
 use Rattle.o32_laws.specs.Refusing.{argumentsIn, Records, Accepted, RefusedAt, Refuses, KeepsBuffer, Refusals}
 use Rattle.o32_laws.specs.Demand.{Demand}
+use Rattle.plans.specs.declared.Entry.{Entry}
 use Rattle.plans.specs.declared.Plan.{Plan}
 use Rattle.plans.specs.declared.PlanAnswer.{PlanAnswer}
 use Rattle.plans.specs.Plans.{noEntry, numbers, makeInto, fillInto, signatureInto}
@@ -140,6 +142,9 @@ pub record ByValue (f : Functions) (p : Pair) (make : List ℕ → PlanAnswer) (
   pub same-numbers : (sig lent : List ℕ) → PlanRoom lent → make sig .refusal ≡ 0 → numbers (make sig .plan) ≡ output (p .make sig lent)
   pub zero : (sig : List ℕ) → 1 ≤ make sig .refusal → numbers (make sig .plan) ≡ replicate 98 0
   pub entries : (sig : List ℕ) → length (make sig .plan .entries) ≡ 32
+  -- The offsets of its entries are those that `lay` gives, of which the laws for laying lists end to end speak (request (viii) of
+  -- document 02).
+  pub entries-laid : (sig : List ℕ) → make sig .refusal ≡ 0 → map (λ (e : Entry). e .offset) (take (make sig .plan .count) (make sig .plan .entries)) ≡ lay 0 sig .offsets
   pub fills : (q : Plan) (list out : List ℕ) → fill q list out ≡ p .fill (numbers q) list out
   -- so what is said of the pair holds of these two
   pub answers-alike : (sig list out : List ℕ) → HasSignature list sig → fill (make sig .plan) list out ≡ f .write list out

@@ -10,7 +10,7 @@ use Rattle.kinds.specs.declared.Class.the-variants.{Marker}
 use Rattle.kinds.specs.Kinds.{kindOf, is}
 use Rattle.carried.specs.Convention.{Scan, stopped, complete, resolve, scan, writeInto}
 use Rattle.carried.specs.Carried.{kinds}
-use Rattle.o32_offsets.specs.Offsets.{endOf}
+use Rattle.o32_offsets.specs.Offsets.{lay}
 use Rattle.o32.specs.declared.State.{State}
 use Rattle.o32.specs.O32.{O32, area}
 use Rattle.o32_laws.specs.Carrying.{registerAfter, offsetAfter}
@@ -39,7 +39,7 @@ padded es = es ++ replicate (32 - length es) noEntry
 
 -- "A plan holds up to 32 placements with their count and the area size."
 abbrev pub planOf : Device → List ℕ → Plan
-planOf d ks = record { entries = padded (entriesAfter d [] ks); count = length (entriesAfter d [] ks); area = area (endOf 0 ks) }
+planOf d ks = record { entries = padded (entriesAfter d [] ks); count = length (entriesAfter d [] ks); area = area (lay 0 ks .end) }
 
 -- A plan that is all zero. It is no signature's: the area has 16 bytes or more.
 abbrev pub noPlan : Plan

@@ -20,7 +20,7 @@ use Rattle.passes.specs.Passes.{measured, outcome, placedIn, Admitted}
 use Rattle.passes.proofs.Answers.{Right, was-refused, Lengths, write-short, write-done}
 use Rattle.o32.specs.declared.State.{State}
 use Rattle.o32.specs.O32.{O32, area}
-use Rattle.o32_offsets.specs.Offsets.{endOf}
+use Rattle.o32_offsets.specs.Offsets.{lay}
 use Rattle.o32_laws.proofs.Laws.{O32-laws}
 use Rattle.o32_laws.proofs.Refusing.{by-record, refused-exactly, end-is}
 use Rattle.plans.specs.declared.Plan.{Plan}
@@ -58,8 +58,8 @@ module _ (d : Device) (list : List ℕ) {own : PlanAnswer} (e : own ≡ makePlan
       go : (q : Scan State) → scan (O32 d) true list ≡ q → Lengths (O32 d) true list (listLength (placedIn (scan (O32 d) true list))) (32 + own .plan .area)
       go (stopped r at j) f = absurd (omega (arith, by-record (refused-exactly d true list r at j .0 f .holds) .0, ap (λ (x : PlanAnswer). x .refusal) (e ∙ ap (answered d) f)))
       go (complete L last) f =
-          let n : own .plan .area ≡ area (endOf 0 (kinds L)) = ap (λ (x : PlanAnswer). x .plan .area) (e ∙ ap (answered d) f) in
-          let k : last .end ≡ endOf 0 (kinds L) = end-is d (walk-by-kinds (O32 d) (O32-laws d) true list L last f) in
+          let n : own .plan .area ≡ area (lay 0 (kinds L) .end) = ap (λ (x : PlanAnswer). x .plan .area) (e ∙ ap (answered d) f) in
+          let k : last .end ≡ lay 0 (kinds L) .end = end-is d (walk-by-kinds (O32 d) (O32-laws d) true list L last f) in
           record {
             admitted = record { placed = L; last = last; scanned = f; whole = rw (n, k) refl };
             long = rw f refl;

@@ -21,7 +21,7 @@ use Rattle.passes.proofs.Ahead.{ahead-starts, ahead-ends, ahead-stepped, ahead-
 use Rattle.o32.specs.declared.State.{State}
 use Rattle.o32.specs.declared.Placement.{Placement}
 use Rattle.o32.specs.O32.{O32, advance, placement, start, endMost, area, register}
-use Rattle.o32_offsets.specs.Offsets.{offset, endOf}
+use Rattle.o32_offsets.specs.Offsets.{offset, lay}
 use Rattle.o32_laws.proofs.Laws.{O32-laws}
 use Rattle.o32_laws.proofs.Steps.{step-described, ends-within, register-floats}
 use Rattle.o32_laws.proofs.Bounds.{not-full, scan-bound}
@@ -167,6 +167,6 @@ pub planning-ends : {d : Device} {bodies : Bool} {l : List ℕ} {m : ℕ} {entri
 planning-ends {d} {bodies} {l} {m} {entries} {st} w a h =
     let z : w .ahead .rest .placed ≡ [] = ahead-ends (w .ahead) h in
     let b : w .before ≡ kindsIn d bodies l = sym (append-nil (w .before)) ∙ (rw z at (w .all)) in
-    let e : a .last .end ≡ endOf 0 (kindsIn d bodies l) = end-is d (whole-walk d a) in
-    let s : m - 32 ≡ area (endOf 0 (kindsIn d bodies l)) = ap (λ (n : ℕ). n - 32) (a .whole) ∙ rw e (omega arith) in
+    let e : a .last .end ≡ lay 0 (kindsIn d bodies l) .end = end-is d (whole-walk d a) in
+    let s : m - 32 ≡ area (lay 0 (kindsIn d bodies l) .end) = ap (λ (n : ℕ). n - 32) (a .whole) ∙ rw e (omega arith) in
     rw (s, w .entered, planning-count w, b) refl

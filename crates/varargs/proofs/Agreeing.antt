@@ -12,12 +12,11 @@ use borrow.Author.Tests.{ltb-true, ltb-false}
 use Rattle.words.specs.Words.{up, body}
 use Rattle.words.proofs.Impossible.{impossible}
 use Rattle.device.specs.declared.Device.{Device}
-use Rattle.device.specs.declared.Device.the-variants.{Fpu, NoFpu}
 use Rattle.kinds.specs.declared.Class.the-variants.{Marker}
 use Rattle.kinds.specs.Kinds.{kindOf, is}
 use Rattle.places.specs.Places.{In, run}
 use Rattle.places.proofs.Places.{gather-agree}
-use Rattle.o32_offsets.specs.Offsets.{endOf, width}
+use Rattle.o32_offsets.specs.Offsets.{lay, width}
 use Rattle.o32_offsets.proofs.Offsets.{up-ge}
 use Rattle.carried.specs.Image.{Placed}
 use Rattle.carried.specs.Convention.{complete, scan}
@@ -27,7 +26,8 @@ use Rattle.o32.specs.declared.State.{State}
 use Rattle.o32.specs.O32.{O32, carrier, imageSize}
 use Rattle.o32_laws.specs.Carrying.{registerAfter, offsetAfter, Carries, low, high}
 use Rattle.o32_laws.proofs.Laws.{O32-laws}
-use Rattle.o32_laws.proofs.Nothing.{end-append}
+use Rattle.o32_laws.proofs.Carrying.{register-late}
+use Rattle.o32_offsets.proofs.Laying.{end-joined}
 use Rattle.varargs.specs.Walking.{spilled, bytesAt, stepped, walkFrom, before, after, walked, marked}
 use Rattle.varargs.specs.Varargs.{CarriedAfter}
 use Rattle.varargs.proofs.Memory.{spilled-part}
@@ -47,13 +47,6 @@ marked-append (x ∷ xs) k h = go (is Marker (kindOf x)) (marked-append xs k) h
     go : (t : Bool) → (Marks xs k → marked (xs ++ (k ∷ [])) ≡ true) → (t || marked xs ≡ true) ⊎ (is Marker (kindOf k) ≡ true) → t || marked (xs ++ (k ∷ [])) ≡ true
     go true rest h = refl
     go false rest h = rest h
-
--- after two kinds no float has a floating register
-register-late : (d : Device) (before : List ℕ) (k : ℕ) → 2 ≤ length before → registerAfter d before k ≡ 0
-register-late NoFpu before k h = refl
-register-late Fpu [] k h = absurd (omega arith)
-register-late Fpu (j ∷ []) k h = absurd (omega arith)
-register-late Fpu (j ∷ i ∷ js) k h = refl
 
 -- ---- the bytes at an offset
 
@@ -89,7 +82,7 @@ module _ (d : Device) (sig a b : List ℕ) (agree : Agree (CarriedAfter d sig) a
 
   -- what is taken for a kind after these
   taken-same : (pre : List ℕ) (k : ℕ) (ks : List ℕ) → pre ++ (k ∷ ks) ≡ sig → 2 ≤ length pre → marked pre ≡ true → (last : ℕ)
-      → offsetAfter pre k + width (kindOf k) ≤ last → Room last → bytesAt (kindOf k) (endOf 0 pre) (spilled a) ≡ bytesAt (kindOf k) (endOf 0 pre) (spilled b)
+      → offsetAfter pre k + width (kindOf k) ≤ last → Room last → bytesAt (kindOf k) (lay 0 pre .end) (spilled a) ≡ bytesAt (kindOf k) (lay 0 pre .end) (spilled b)
   taken-same pre k ks e two m last h room =
       let w : ℕ = width (kindOf k) in
       let o : ℕ = offsetAfter pre k in
@@ -107,7 +100,7 @@ module _ (d : Device) (sig a b : List ℕ) (agree : Agree (CarriedAfter d sig) a
 
   -- after the marker
   same-from : {st last : State} {ks : List ℕ} {L : List Placed} → Walk (O32 d) (O32-laws d) st ks L last → Room (last .end) → AfterMarker st
-      → (pre : List ℕ) → pre ++ ks ≡ sig → 2 ≤ length pre → marked pre ≡ true → st .end ≡ endOf 0 pre
+      → (pre : List ℕ) → pre ++ ks ≡ sig → 2 ≤ length pre → marked pre ≡ true → st .end ≡ lay 0 pre .end
       → walkFrom (spilled a) (st .end) ks ≡ walkFrom (spilled b) (st .end) ks
   same-from end room after pre e two m ends = refl
   same-from (one {st = st} {st′ = st′} {k = k} {ks = ks} s f w) room after pre e two m ends =
@@ -117,7 +110,7 @@ module _ (d : Device) (sig a b : List ℕ) (agree : Agree (CarriedAfter d sig) a
       rw ends (taken-same pre k ks e two m (st′ .end) (rw (← ends) (record-inside d st k s)) (room-before w room)) in
       let then : walkFrom (spilled a) (st′ .end) ks ≡ walkFrom (spilled b) (st′ .end) ks =
       same-from w room (argument-leads d st k s n after) (pre ++ (k ∷ [])) (append-assoc pre (k ∷ []) ks ∙ e) (omega (arith, length-append pre (k ∷ []))) (marked-append pre k (inl m))
-      (g ∙ ap (stepped (kindOf k)) ends ∙ sym (end-append pre (k ∷ []) 0 ∙ end-after k (endOf 0 pre) [] n)) in
+      (g ∙ ap (stepped (kindOf k)) ends ∙ sym (end-joined 0 pre (k ∷ []) ∙ end-after k (lay 0 pre .end) [] n)) in
       ap₂ (λ (x y : List ℕ). x ++ y) now (subst (λ (o : ℕ). walkFrom (spilled a) o ks ≡ walkFrom (spilled b) o ks) g then)
 
   pub walked-agree : {L : List Placed} {last : State} → scan (O32 d) false sig ≡ complete L last → marked sig ≡ true
@@ -126,9 +119,9 @@ module _ (d : Device) (sig a b : List ℕ) (agree : Agree (CarriedAfter d sig) a
       let r = after-marker-of d sig ok m in
       let w = around sig m in
       let pre : List ℕ = before sig ++ (w .marker ∷ []) in
-      let i : endOf (endOf 0 (before sig)) (w .marker ∷ []) ≡ endOf 0 (before sig) = rw (w .is-marker) refl in
+      let i : lay (lay 0 (before sig) .end) (w .marker ∷ []) .end ≡ lay 0 (before sig) .end = rw (w .is-marker) refl in
       subst (λ (o : ℕ). walkFrom (spilled a) o (after false sig) ≡ walkFrom (spilled b) o (after false sig)) (r .ends)
       (same-from (r .walk) (omega arith, omega arith) (r .after-marker) pre (append-assoc (before sig) (w .marker ∷ []) (after false sig) ∙ w .whole)
       (omega (arith, length-append (before sig) (w .marker ∷ []), r .counted, r .after-marker .some))
       (marked-append (before sig) (w .marker) (inr (w .is-marker)))
-      (r .ends ∙ sym (end-append (before sig) (w .marker ∷ []) 0 ∙ i)))
+      (r .ends ∙ sym (end-joined 0 (before sig) (w .marker ∷ []) ∙ i)))

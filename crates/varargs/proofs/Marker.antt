@@ -16,7 +16,7 @@ use Rattle.kinds.specs.declared.Class.the-variants.{Unknown, Marker}
 use Rattle.kinds.specs.Kinds.{kindOf, is}
 use Rattle.kinds.proofs.KindFacts.{kind-facts}
 use Rattle.places.specs.Places.{gather}
-use Rattle.o32_offsets.specs.Offsets.{endOf, offset, width}
+use Rattle.o32_offsets.specs.Offsets.{lay, offset, width}
 use Rattle.o32_offsets.proofs.Offsets.{up-ge, body-within}
 use Rattle.carried.specs.Image.{Placed, reading}
 use Rattle.carried.specs.Convention.{next, complete, scan}
@@ -44,7 +44,7 @@ empty [] e = refl
 empty (x ∷ b) e = absurd (omega arith)
 
 -- the end of an argument and of those after it
-pub end-after : (k o : ℕ) (ks : List ℕ) → is Marker (kindOf k) ≡ false → endOf o (k ∷ ks) ≡ endOf (stepped (kindOf k) o) ks
+pub end-after : (k o : ℕ) (ks : List ℕ) → is Marker (kindOf k) ≡ false → lay o (k ∷ ks) .end ≡ lay (stepped (kindOf k) o) ks .end
 end-after k o ks m = rw m refl
 
 -- a signature with a marker is what is before the marker, the marker, and what is after it
@@ -148,7 +148,7 @@ module _ (d : Device) where
     pub placed : List Placed
     pub walk : Walk (O32 d) (O32-laws d) state (afterFrom false 0 ks) placed last
     pub after-marker : AfterMarker state
-    pub ends : state .end ≡ endOf (st .end) (before ks)
+    pub ends : state .end ≡ lay (st .end) (before ks) .end
     pub reads : (img : List ℕ) → afterFrom true 0 (reading L img) ≡ reading placed img
     -- no more arguments are counted than kinds stand before it, and each takes at least a word
     pub counted : state .prefix .count ≤ st .prefix .count + length (before ks)
@@ -180,7 +180,7 @@ module _ (d : Device) where
             placed = r .placed;
             walk = rw i (r .walk);
             after-marker = r .after-marker;
-            ends = rw i (r .ends ∙ ap (λ (o : ℕ). endOf o (before ks)) g ∙ sym (end-after k (st .end) (before ks) i));
+            ends = rw i (r .ends ∙ ap (λ (o : ℕ). lay o (before ks) .end) g ∙ sym (end-after k (st .end) (before ks) i));
             reads = λ img. rw i (after-pass (bodyOf p img) (reading L img) (kindOf k .size) (body-long d st k e img) ∙ r .reads img);
             counted = rw i (omega (arith, r .counted));
             words-each = λ h. r .words-each (omega (arith, argument-room d st k e i));

@@ -9,7 +9,7 @@ use Rattle.answers.specs.Outcomes.{Outcome, refused, checkRoom, over}
 use Rattle.kinds.specs.declared.Class.the-variants.{Marker}
 use Rattle.kinds.specs.declared.Kind.{Kind}
 use Rattle.kinds.specs.Kinds.{kindOf, is}
-use Rattle.o32_offsets.specs.Offsets.{width, endOf}
+use Rattle.o32_offsets.specs.Offsets.{width, lay}
 use Rattle.carried.specs.Convention.{bodyLength, Scan, resolve, scan, checkImage}
 use Rattle.o32.specs.declared.State.{State}
 use Rattle.o32.specs.O32.{O32}
@@ -57,7 +57,7 @@ after bodies l = afterFrom bodies 0 l
 
 -- The walk starts at the end of the last argument before the marker. A float before it counts by its offset, whatever its register.
 abbrev pub walked : List ℕ → List ℕ → List ℕ
-walked sig img = walkFrom (spilled img) (endOf 0 (before sig)) (after false sig)
+walked sig img = walkFrom (spilled img) (lay 0 (before sig) .end) (after false sig)
 
 -- ---- with its refusals
 

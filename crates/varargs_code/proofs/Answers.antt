@@ -11,7 +11,7 @@ use Rattle.device.specs.declared.Device.{Device}
 use Rattle.answers.specs.declared.Answer.{Answer}
 use Rattle.answers.specs.Outcomes.{done, answerOf}
 use Rattle.kinds.specs.Kinds.{is}
-use Rattle.o32_offsets.specs.Offsets.{endOf}
+use Rattle.o32_offsets.specs.Offsets.{lay}
 use Rattle.carried.specs.Convention.{scan}
 use Rattle.passes.specs.declared.Measured.{Measured}
 use Rattle.passes.specs.declared.Measured.the-variants as M
@@ -41,7 +41,7 @@ drop-before sig m =
 record Started (sig : List ℕ) (place pointer : ℕ) : Type 0 where
   found : marked sig ≡ true
   from : drop place sig ≡ after false sig
-  at : pointer ≡ endOf 0 (before sig)
+  at : pointer ≡ lay 0 (before sig) .end
 
 abbrev Starting : List ℕ → Start → Type 0
 Starting sig S.Unmarked = marked sig ≡ false
@@ -50,7 +50,7 @@ Starting sig (S.Marked place pointer) = Started sig place pointer
 starting : (sig : List ℕ) → Starting sig (startOf sig)
 starting sig = go (marked sig) refl
   where
-    go : (t : Bool) → marked sig ≡ t → Starting sig (cond t (S.Marked (length (before sig) + 1) (endOf 0 (before sig))) S.Unmarked)
+    go : (t : Bool) → marked sig ≡ t → Starting sig (cond t (S.Marked (length (before sig) + 1) (lay 0 (before sig) .end)) S.Unmarked)
     go true m = record { found = m; from = drop-before sig m; at = refl }
     go false m = m
 

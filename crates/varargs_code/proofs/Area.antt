@@ -8,7 +8,7 @@ use native.Mathlib.Omega.{arith}
 use Rattle.device.specs.declared.Device.{Device}
 use Rattle.kinds.specs.declared.Class.the-variants.{Marker}
 use Rattle.kinds.specs.Kinds.{kindOf, is}
-use Rattle.o32_offsets.specs.Offsets.{endOf}
+use Rattle.o32_offsets.specs.Offsets.{lay}
 use Rattle.carried.specs.Image.{Placed}
 use Rattle.carried.specs.Convention.{complete, scan}
 use Rattle.carried.proofs.Walks.{Walk, end, one, walk-of}
@@ -40,7 +40,7 @@ module _ (d : Device) {limit : ℕ} where
     pub signature-before : Within limit 0 (before sig)
     signature-before = before-within (walk-of (O32 d) (O32-laws d) sig start L last 0 ok) h
 
-    pub signature-after : marked sig ≡ true → Within limit (endOf 0 (before sig)) (after false sig)
+    pub signature-after : marked sig ≡ true → Within limit (lay 0 (before sig) .end) (after false sig)
     signature-after m =
         let r = after-marker-of d sig ok m in
         subst (λ (o : ℕ). Within limit o (after false sig)) (r .ends) (kinds-within (r .walk) h (r .after-marker))

@@ -13,7 +13,7 @@ use Rattle.kinds.specs.declared.Class.the-variants.{Marker}
 use Rattle.kinds.specs.declared.Kind.{Kind}
 use Rattle.kinds.specs.Kinds.{kindOf, is}
 use Rattle.kinds.proofs.KindFacts.{kind-facts}
-use Rattle.o32_offsets.specs.Offsets.{endOf, width, Alignment}
+use Rattle.o32_offsets.specs.Offsets.{lay, width, Alignment}
 use Rattle.o32_offsets.proofs.Offsets.{up-small, width-le}
 use Rattle.o32.specs.O32.{endMost}
 use Rattle.varargs.specs.Walking.{aligned, stepped, before, marked}
@@ -38,7 +38,7 @@ aligned-near {a} {pointer} h l = omega (arith, up-small a pointer h)
 
 -- what is found from a kind on
 abbrev startFrom : ℕ → ℕ → List ℕ → Start
-startFrom at pointer ks = cond (marked ks) (S.Marked (at + length (before ks) + 1) (endOf pointer (before ks))) S.Unmarked
+startFrom at pointer ks = cond (marked ks) (S.Marked (at + length (before ks) + 1) (lay pointer (before ks) .end)) S.Unmarked
 
 pub record Seeking (sig : List ℕ) (pointer at : ℕ) : Type 0 where
   pub within : Within endMost pointer (before (drop at sig))
