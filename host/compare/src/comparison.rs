@@ -1,5 +1,6 @@
 //! One comparison of the library with the model, and the count of all.
 
+mod joins;
 mod plans;
 
 use std::ops::RangeInclusive;
@@ -113,6 +114,9 @@ impl Comparison {
                     self.fail(|| format!("{operation:?}: no input is answered with {answer}"));
                 }
             }
+            for join in self.coverage.missing_joins(device) {
+                self.fail(|| format!("joined groups: too few inputs are {join:?}"));
+            }
         }
         self.start_group_without_device("coverage");
         for answer in self.coverage.missing_signatures() {
@@ -123,8 +127,9 @@ impl Comparison {
         }
     }
 
-    /// Compares the writers on a list and an image buffer of `room` bytes.
-    pub fn write(&mut self, list: &[u8], room: usize) {
+    /// Compares the writers on a list and an image buffer of `room` bytes, and
+    /// gives the buffer as the library has left it.
+    pub fn write(&mut self, list: &[u8], room: usize) -> Guarded {
         let mut input = Input::new(self.noise.around(list));
         let mut output = self.noise.buffer(room);
         let mut expected_output = output.clone();
@@ -147,6 +152,7 @@ impl Comparison {
             ]
             .join("\n  ")
         });
+        output
     }
 
     /// Compares a reader with the model's on a signature, an image and an

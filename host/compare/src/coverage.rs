@@ -13,6 +13,9 @@ const ANSWERS: usize = 21;
 /// The refusal that only a device without a floating-point unit gives.
 const PAIRS_WITHOUT_UNIT: usize = 14;
 
+/// Fewer inputs than this for a case of joined groups are too few.
+const LEAST_JOINS: u64 = 1_000;
+
 /// The answers to a list whose signature is asked for.
 const SIGNATURE_ANSWERS: [usize; 7] = [0, 1, 2, 3, 4, 5, 7];
 
@@ -58,6 +61,23 @@ impl Operation {
     }
 }
 
+/// What is asked of groups that are joined.
+#[derive(Clone, Copy, Debug, PartialEq, Eq)]
+pub enum Join {
+    /// The place of the first argument that ends beyond the limit.
+    Beyond,
+    /// The offsets of a group behind one that ends at a multiple of 8.
+    Moved,
+    /// What stands behind two groups that leave the same end in either order.
+    SameEnd,
+    /// Nothing, as two groups leave another end in the other order.
+    OtherEnd,
+}
+
+impl Join {
+    const ALL: [Join; 4] = [Join::Beyond, Join::Moved, Join::SameEnd, Join::OtherEnd];
+}
+
 /// How often each answer was expected of one operation.
 #[derive(Clone, Copy, Default)]
 struct Counts([u64; ANSWERS]);
@@ -87,6 +107,7 @@ impl Counts {
 #[derive(Default)]
 pub struct Coverage {
     seen: [[Counts; DEVICES.len()]; Operation::ALL.len()],
+    joins: [[u64; DEVICES.len()]; Join::ALL.len()],
     signatures: Counts,
     /// Of descriptions: success, then each cause of a refusal.
     descriptions: [u64; 1 + Cause::ALL.len()],
@@ -105,6 +126,34 @@ impl Coverage {
     /// How often each answer of an operation was expected.
     pub fn text(&self, operation: Operation, device: Device) -> String {
         self.seen[operation as usize][device as usize].text(operation.answers(device))
+    }
+
+    /// Counts a case of joined groups.
+    pub fn count_join(&mut self, join: Join, device: Device) {
+        self.joins[join as usize][device as usize] += 1;
+    }
+
+    /// The cases of joined groups with how often each was asked.
+    fn joins(&self, device: Device) -> impl Iterator<Item = (Join, u64)> + '_ {
+        Join::ALL
+            .into_iter()
+            .zip(self.joins.iter().map(move |counts| counts[device as usize]))
+    }
+
+    /// The cases of joined groups that too few inputs have led to.
+    pub fn missing_joins(&self, device: Device) -> Vec<Join> {
+        self.joins(device)
+            .filter(|&(_, count)| count < LEAST_JOINS)
+            .map(|(join, _)| join)
+            .collect()
+    }
+
+    /// How often each case of joined groups was asked.
+    pub fn joins_text(&self, device: Device) -> String {
+        self.joins(device)
+            .map(|(join, count)| format!("{count} {join:?}"))
+            .collect::<Vec<_>>()
+            .join(", ")
     }
 
     /// Counts a list whose signature is asked for.

@@ -1,8 +1,8 @@
 //! Lists, signatures, plans and images to compare on.
 //!
 //! The model serves here only to choose inputs: how long a body is, whether one
-//! more kind would be refused, which plan a signature has, and which image bytes
-//! carry something.
+//! more kind would be refused, where a group of kinds ends, which plan a signature
+//! has, and which image bytes carry something.
 
 use compare::rng::Rng;
 use o32::{Device, PLAN_WORDS, SIGNATURE_MAX};
@@ -53,6 +53,16 @@ impl Shape {
 /// Bytes of a kind's body, 0 for the marker and for unknown kinds.
 pub fn body_length(kind: u8) -> usize {
     model::lengths(&[kind]).map_or(0, |lengths| lengths.list - 1)
+}
+
+/// Where a group of kinds ends that is laid from offset 0 on.
+pub fn end_of(kinds: &[u8]) -> usize {
+    model::lay(0, kinds).map_or(0, |laid| laid.end)
+}
+
+/// Whether two groups leave the same end whichever stands first.
+pub fn leave_same_end(first: &[u8], second: &[u8]) -> bool {
+    end_of(&[first, second].concat()) == end_of(&[second, first].concat())
 }
 
 /// A kind that is an argument, with a liking for the interesting ones.
@@ -306,16 +316,23 @@ pub fn image_of(device: Device, list: &[u8]) -> Vec<u8> {
 /// For an accepted signature: `FF` for image bytes that carry something, 0 for
 /// those that carry nothing.
 pub fn carried_bytes(device: Device, signature: &[u8]) -> Vec<u8> {
+    carried_from(device, signature, 0)
+}
+
+/// Likewise, but `FF` only for image bytes that carry an argument from a place
+/// of the signature on.
+pub fn carried_from(device: Device, signature: &[u8], from: usize) -> Vec<u8> {
     let mut list = Vec::new();
-    for &kind in signature {
+    for (place, &kind) in signature.iter().enumerate() {
         // A promoted argument is carried by the whole word, like a word.
         let kind = if (0x01..=0x04).contains(&kind) {
             WORD
         } else {
             kind
         };
+        let content = if place < from { 0 } else { 0xFF };
         list.push(kind);
-        list.resize(list.len() + body_length(kind), 0xFF);
+        list.resize(list.len() + body_length(kind), content);
     }
     image_of(device, &list)
 }

@@ -13,6 +13,7 @@ mod frames;
 mod generate;
 mod guarded;
 mod images;
+mod joins;
 mod lists;
 mod plans;
 mod readers;
@@ -99,6 +100,19 @@ const FILLING: [Group; 13] = [
     ("fill, wrong numbers of words", plans::of_other_lengths),
     ("fill, random words", plans::of_random_words),
     ("fill, as the library writes", plans::as_written),
+];
+
+const JOINING: [Group; 7] = [
+    ("make_plan, joined groups at the edges", joins::at_the_edges),
+    ("make_plan, joined groups", joins::accepted),
+    ("make_plan, joined groups with damage", joins::damaged),
+    (
+        "make_plan, joined groups beyond the limits",
+        joins::beyond_the_limits,
+    ),
+    ("make_plan, groups moved by a multiple of 8", joins::moved),
+    ("make_plan, groups exchanged", joins::exchanged),
+    ("write, groups exchanged", joins::exchanged_lists),
 ];
 
 const READING: [ReaderGroup; 10] = [
@@ -216,7 +230,8 @@ fn main() -> ExitCode {
 }
 
 fn run_groups(comparison: &mut Comparison, seed: u64) {
-    for (name, group) in WRITING.into_iter().chain(PLANNING).chain(FILLING) {
+    let making = WRITING.into_iter().chain(PLANNING).chain(FILLING);
+    for (name, group) in making.chain(JOINING) {
         run_group(comparison, seed, name, group);
     }
     for reader in Reader::BOTH {
@@ -267,6 +282,7 @@ fn print_answers(coverage: &Coverage) {
             let answers = coverage.text(operation, device);
             println!("answers compared, {device:?}, {operation:?}: {answers}");
         }
+        println!("joined groups, {device:?}: {}", coverage.joins_text(device));
     }
     println!(
         "answers compared, signature: {}",

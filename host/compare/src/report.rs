@@ -72,3 +72,9 @@ pub fn hex_beginning(bytes: &[u8]) -> String {
         _ => hex(bytes),
     }
 }
+
+/// Groups of kinds with a sign between them, so that one sees where each ends.
+pub fn groups_text(groups: &[&[u8]]) -> String {
+    let groups: Vec<String> = groups.iter().map(|group| hex(group)).collect();
+    groups.join(" + ")
+}

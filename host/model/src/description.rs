@@ -1,7 +1,7 @@
 //! Structures from descriptions of their members.
 
 use crate::kind::Kind;
-use crate::placement::align_up;
+use crate::offsets::align_up;
 
 /// How many structures may be open at once.
 const DEPTH_LIMIT: usize = 6;

@@ -8,6 +8,7 @@ mod description;
 mod frame;
 mod image;
 mod kind;
+mod offsets;
 mod placement;
 mod plan;
 mod records;
@@ -16,6 +17,7 @@ mod walker;
 pub use description::{cause_of_refusal, describe, Cause, Structure};
 pub use frame::{epilogue, frame, prologue, Layout, Request};
 pub use image::{read, write};
+pub use offsets::{lay, Laid};
 pub use plan::{fill, make_plan, signature, Placement, Plan};
 pub use walker::walk;
 

@@ -1,6 +1,7 @@
 //! Where an argument lies in the call image.
 
 use crate::kind::Kind;
+use crate::offsets::{align_up, place_behind};
 use crate::Device;
 
 /// The register words `$4` to `$7`, then `$f12` to `$f15`.
@@ -148,8 +149,7 @@ impl ArgumentArea {
     /// limit.
     pub(crate) fn place(&mut self, device: Device, kind: Kind) -> Option<Location> {
         let size = kind.size();
-        let offset = align_up(self.end, kind.alignment());
-        let end = align_up(offset + size, 4);
+        let (offset, end) = place_behind(self.end, kind);
         if end > END_LIMIT {
             return None;
         }
@@ -182,11 +182,6 @@ impl ArgumentArea {
     pub(crate) fn size(&self) -> usize {
         align_up(self.end, 8).max(GENERAL_BYTES)
     }
-}
-
-/// The next multiple of an alignment, which is a power of two.
-pub(crate) fn align_up(offset: usize, alignment: usize) -> usize {
-    (offset + alignment - 1) & !(alignment - 1)
 }
 
 #[cfg(test)]

@@ -5,7 +5,8 @@ use std::iter;
 
 use crate::image::put_image;
 use crate::kind::Kind;
-use crate::placement::{align_up, GENERAL_BYTES};
+use crate::offsets::align_up;
+use crate::placement::GENERAL_BYTES;
 use crate::records::{Record, Records, ARGUMENT_LIMIT};
 use crate::walker::ArgumentPointer;
 use crate::{Answer, Device, Refusal};

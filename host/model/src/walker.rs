@@ -2,7 +2,8 @@
 
 use crate::image::checked_output;
 use crate::kind::Kind;
-use crate::placement::{align_up, GENERAL_BYTES, REGISTER_BYTES};
+use crate::offsets::align_up;
+use crate::placement::{GENERAL_BYTES, REGISTER_BYTES};
 use crate::records::{Record, Records};
 use crate::{Answer, Device, Refusal};
 

@@ -6,7 +6,7 @@ use o32::{raw, PLAN_WORDS, SIGNATURE_MAX};
 use super::{answer_of, model_device, success, Comparison};
 use crate::coverage::Operation;
 use crate::guarded::{Guarded, Input};
-use crate::report::{answer_text, answers, change, difference, hex, words_text};
+use crate::report::{answer_text, answers, change, difference, groups_text, hex, words_text};
 
 impl Comparison {
     /// Compares the signatures of a list, for a buffer of `room` bytes.
@@ -33,7 +33,21 @@ impl Comparison {
 
     /// Compares the plans of a signature, for a buffer of `room` words.
     pub fn make_plan(&mut self, signature: &[u8], room: usize) {
-        let mut input = Input::new(self.noise.around(signature));
+        let device = model_device(self.device);
+        self.make_plan_as(&[signature], room, |words| {
+            model::make_plan(device, signature, words)
+        });
+    }
+
+    /// Compares the plan of joined groups, for a buffer of `room` words, with what
+    /// `expect` answers and puts there. Gives the buffer as the library has left it.
+    pub(super) fn make_plan_as(
+        &mut self,
+        groups: &[&[u8]],
+        room: usize,
+        expect: impl FnOnce(&mut [u32]) -> Answer,
+    ) -> Guarded<u32> {
+        let mut input = Input::new(self.noise.around(&groups.concat()));
         let mut output = self.noise.words(room);
         let mut expected_output = output.clone();
         let answer = answer_of(raw::make_plan(
@@ -41,16 +55,12 @@ impl Comparison {
             input.now.bytes(),
             output.words_mut(),
         ));
-        let expected = model::make_plan(
-            model_device(self.device),
-            signature,
-            expected_output.words_mut(),
-        );
+        let expected = expect(expected_output.words_mut());
 
         let agrees = answer == expected && output == expected_output && input.unchanged();
         self.count(Operation::MakePlan, expected.refusal, agrees, || {
             [
-                format!("signature {}", hex(signature)),
+                format!("signature {}", groups_text(groups)),
                 format!("plan buffer of {room} words"),
                 answers(&expected, &answer),
                 difference("plan buffer", &expected_output, &output),
@@ -58,6 +68,7 @@ impl Comparison {
             ]
             .join("\n  ")
         });
+        output
     }
 
     /// Compares the images of a list that are filled by a plan, which may be any
