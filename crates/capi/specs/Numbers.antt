@@ -27,7 +27,7 @@ use Rattle.capi.specs.declared.O32Structure.{O32Structure}
 abbrev pub narrow : Answer → O32Answer
 narrow a = record { refusal = a .refusal; place = a .place; argument = a .argument; length = a .length }
 
--- A layout, number by number.
+-- A layout, number by number. C gets a yes or no as 1 or 0.
 abbrev pub layoutNumbers : Layout → O32Layout
 layoutNumbers y = record {
   refusal = y .refusal;
@@ -37,6 +37,8 @@ layoutNumbers y = record {
   floating = y .floating;
   general = y .general;
   locals = y .locals;
+  «gp_saved» = cond (y .«gp_saved») 1 0;
+  gp = y .gp;
 }
 
 -- A structure that was described, number by number.

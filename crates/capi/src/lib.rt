@@ -27,7 +27,7 @@ pub struct O32Answer {
     pub length: u32,
 }
 
-// A frame: a refusal and all other numbers 0, or 0, 0 and the frame's numbers.
+// A frame: a refusal and all other numbers 0, or 0, 0 and the frame's numbers. `gp_saved` is 1 for yes and 0 for no.
 #[repr(C)]
 pub struct O32Layout {
     pub refusal: u32,
@@ -37,6 +37,8 @@ pub struct O32Layout {
     pub floating: u32,
     pub general: u32,
     pub locals: u32,
+    pub gp_saved: u32,
+    pub gp: u32,
 }
 
 // A structure that was described: a refusal, its place and all other numbers 0, or 0, 0 and the structure's numbers.
@@ -111,9 +113,9 @@ fn as_request(leaf: u32, locals: u32, outgoing: u32, general: u32, pairs: u32) -
 // or a function here.
 #[no_mangle]
 pub extern "C" fn o32_version() -> u32
-    ensures { λ r. ⌜ r ≡ 4 ⌝ }
+    ensures { λ r. ⌜ r ≡ 5 ⌝ }
 {
-    4
+    5
 }
 
 // The call image of a list for a device.
@@ -209,6 +211,7 @@ pub extern "C" fn o32_frame(
 {
     let request = as_request(leaf, locals, outgoing, general, pairs);
     let layout = frame_code::layout_of(as_device(device), request);
+    let gp_saved = layout.gp_saved as u32;
     O32Layout {
         refusal: layout.refusal,
         place: layout.place,
@@ -217,6 +220,8 @@ pub extern "C" fn o32_frame(
         floating: layout.floating,
         general: layout.general,
         locals: layout.locals,
+        gp_saved,
+        gp: layout.gp,
     }
 }
 

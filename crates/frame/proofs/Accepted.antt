@@ -2,18 +2,20 @@
 -- Assumes nothing.
 use mathlib.Core.Path.{_≡_, refl}
 use mathlib.Core.Bool.{Bool, true, false, cond, not, _&&_, _||_, true≢false}
-use Prim.Native.Nat.{ℕ, _+_, _%_, _^_, _≤_}
+use Prim.Native.Nat.{ℕ, _+_, _*_, _%_, _^_, _≤_}
 use native.Mathlib.Omega.{arith}
 use lib.Dec.{eqb, ltb}
 use lib.Bits.{bitAnd}
 use lib.ListN.{length}
 use lib.Count.{ones}
-use borrow.Author.Tests.{ltb-false, eqb-true, not-false}
+use borrow.Author.Tests.{ltb-false, eqb-true, eqb-false, eq-eqb, not-false}
 use Rattle.device.specs.declared.Device.{Device}
 use Rattle.device.specs.declared.Device.the-variants.{NoFpu}
 use Rattle.frame.specs.Masks.{countBelow}
-use Rattle.frame.specs.Frame.{savableRegisters, savable, pairsMost, namesUnsavable, hasPairsWithoutUnit, losesReturn, localsMost, exceedsLocals, outgoingMost, exceedsOutgoing, refusalOf, buildFor, buildOf, generalAt, localsAt, frameOf, frameMost}
+use Rattle.frame.specs.Frame.{savableRegisters, savable, pairsMost, namesUnsavable, hasPairsWithoutUnit, losesReturn, localsMost, exceedsLocals, outgoingMost, exceedsOutgoing, refusalOf, buildFor, buildOf, generalAt, localsAt, frameOf, frameMost, acceptedLayout, refusedLayout, layoutOf}
+use Rattle.frame.specs.Largest.{registersMost, areaMost}
 use Rattle.frame.specs.declared.Request.{Request}
+use Rattle.frame.specs.declared.Layout.{Layout}
 use Rattle.frame.proofs.Masks.{ones-all, count-below-le}
 use Rattle.frame.proofs.Savable.{names-few, savable-word, savable-low}
 
@@ -95,10 +97,27 @@ module _ {r : Request} (a : Accepted r) where
   unfolding frameOf localsAt generalAt
   frame-le = omega arith
 
+  pub registers-le : 4 * countBelow (r .general) 32 ≤ registersMost
+  registers-le = omega arith
+
+  pub area-le : localsAt r ≤ generalAt r + areaMost
+  unfolding localsAt
+  area-le = omega arith
+
   pub general-le : generalAt r ≤ outgoingMost + 48
   unfolding generalAt
   general-le = omega arith
 
--- "The frame F is .. at most 17,496."
-pub frame-limit : (d : Device) (r : Request) → refusalOf d r ≡ 0 → frameOf r ≤ frameMost
-frame-limit d r e = frame-le (accepted d r e)
+-- the layout that is answered, by case
+pub layout-accepted : (d : Device) (r : Request) → refusalOf d r ≡ 0 → layoutOf d r ≡ acceptedLayout r
+unfolding layoutOf
+layout-accepted d r e = simp (eq-eqb (refusalOf d r) 0 e)
+
+pub layout-cases : (d : Device) (r : Request) (P : Layout → Type 0) → (refusalOf d r ≡ 0 → P (acceptedLayout r))
+    → ((refusalOf d r ≡ 0 → ⊥) → P (refusedLayout (refusalOf d r))) → P (layoutOf d r)
+unfolding layoutOf
+layout-cases d r P taken refused = by (eqb (refusalOf d r) 0) refl
+  where
+    by : (b : Bool) → eqb (refusalOf d r) 0 ≡ b → P (cond b (acceptedLayout r) (refusedLayout (refusalOf d r)))
+    by true e = taken (eqb-true (refusalOf d r) 0 e)
+    by false e = refused (eqb-false (refusalOf d r) 0 e)

@@ -12,3 +12,5 @@ pub mod Collect
 pub mod Sound
 pub mod WordsIn
 pub mod Theorem
+pub mod Largest
+pub mod GlobalPointer

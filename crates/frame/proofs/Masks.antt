@@ -1,14 +1,15 @@
 -- Masks: what they count and name, and masks within other masks.
 -- Assumes nothing.
-use mathlib.Core.Path.{_≡_, refl, sym, ap, ap₂, _∙_}
-use mathlib.Core.Bool.{false}
+use mathlib.Core.Path.{_≡_, refl, sym, ap, ap₂, _∙_, subst}
+use mathlib.Core.Bool.{true, false}
 use Prim.Native.Nat.{ℕ, zero, suc, _+_, _/_, _%_, _^_, _<_, _≤_}
 use native.Mathlib.Omega.{arith}
+use native.Mathlib.Decide.{ℕ-discrete}
 use native.Mathlib.Nat.{mod-lt, mod-eq-of-lt, add-comm}
 use lib.Pow.{mod-pow-add, pow-pos}
 use lib.Bits.{bitAnd, and-le-r, and-shr, and-mod}
 use lib.Count.{ones, ones-cat}
-use borrow.Author.Tests.{eqb-false}
+use borrow.Author.Tests.{eqb-true, eqb-false}
 use Rattle.frame.specs.Masks.{bit, names, countBelow}
 
 ones-bit : (b : ℕ) → b < 2 → ones b ≡ b
@@ -39,6 +40,16 @@ pub count-below-le : (m k : ℕ) → countBelow m k ≤ k
 unfolding countBelow
 count-below-le m zero = omega arith
 count-below-le m (suc k) = omega (arith, count-below-le m k, bit-lt m k)
+
+-- a named register is counted below every higher one
+pub count-below-named : (m j k : ℕ) → names m j ≡ true → j < k → countBelow m j + 1 ≤ countBelow m k
+unfolding countBelow
+count-below-named m j zero e h = absurd (omega arith)
+count-below-named m j (suc k) e h = by (ℕ-discrete j k) (λ q. count-below-named m j k e q)
+  where
+    by : Dec (j ≡ k) → (j < k → countBelow m j + 1 ≤ countBelow m k) → countBelow m j + 1 ≤ countBelow m k + bit m k
+    by (yes q) earlier = subst (λ (i : ℕ). countBelow m j + 1 ≤ countBelow m i + bit m i) q (omega (arith, eqb-true (bit m j) 1 e))
+    by (no n) earlier = omega (arith, earlier (omega arith))
 
 -- a mask with no bit below k names none there
 pub count-below-none : (m k : ℕ) → m % 2 ^ k ≡ 0 → countBelow m k ≡ 0

@@ -11,9 +11,10 @@ use Rattle.frame.specs.declared.Request.{Request}
 use Rattle.frame.specs.declared.Layout.{Layout}
 use Rattle.frame.specs.Masks.{names, countBelow, maskOf}
 
--- The general registers that may be saved: "`$16`..`$23`, `$30`, `$31`".
+-- The general registers that may be saved: "`$16`..`$23`, `$30`, `$31`"; request (ix) of document 02: "Admit `$28` in the general
+-- mask".
 abbrev pub savableRegisters : List ℕ
-savableRegisters = 16 ∷ 17 ∷ 18 ∷ 19 ∷ 20 ∷ 21 ∷ 22 ∷ 23 ∷ 30 ∷ 31 ∷ []
+savableRegisters = 16 ∷ 17 ∷ 18 ∷ 19 ∷ 20 ∷ 21 ∷ 22 ∷ 23 ∷ 28 ∷ 30 ∷ 31 ∷ []
 
 abbrev pub savable : ℕ
 savable = maskOf savableRegisters
@@ -22,7 +23,7 @@ savable = maskOf savableRegisters
 abbrev pub pairsMost : ℕ
 pairsMost = 63
 
--- "9: general mask outside `$16`..`$23`, `$30`, `$31`, or pair mask above 63".
+-- "9: general mask outside `$16`..`$23`, `$30`, `$31`, or pair mask above 63"; "9 now also admits `$28`".
 abbrev pub namesUnsavable : Request → Bool
 namesUnsavable r = not (eqb (bitAnd (r .general) savable) (r .general)) || ltb pairsMost (r .pairs)
 
@@ -78,16 +79,41 @@ generalAt r = floatingAt r + 8 * countBelow (r .pairs) 6
 unfoldable pub localsAt : Request → ℕ
 localsAt r = generalAt r + up 8 (4 * countBelow (r .general) 32)
 
--- "The frame F is the end of locals rounded up to 8, at most 17,496."
+-- "The frame F is the end of locals rounded up to 8"; with request (ix) "F at most 17,504".
 unfoldable pub frameOf : Request → ℕ
 frameOf r = up 8 (localsAt r + r .locals)
 
 abbrev pub frameMost : ℕ
-frameMost = 17496
+frameMost = 17504
 
--- "The layout answers F, B and the offsets of the floating save area, the general save area and the locals"; on a refusal
--- "Place is 0, .. and the layout's numbers are all 0."
+-- Where register k is saved, from `$sp`: "Lower register numbers lie lower."
+abbrev pub offsetOfRegister : Request → ℕ → ℕ
+offsetOfRegister r k = generalAt r + 4 * countBelow (r .general) k
+
+-- "a yes or no for it and its offset, 0 with the no": for `$28`, the global pointer.
+abbrev pub savesGp : Request → Bool
+savesGp r = names (r .general) 28
+
+unfoldable pub gpAt : Request → ℕ
+gpAt r = cond (savesGp r) (offsetOfRegister r 28) 0
+
+-- "The layout answers F, B and the offsets of the floating save area, the general save area and the locals", and those two of `$28`.
+abbrev pub acceptedLayout : Request → Layout
+acceptedLayout r = record {
+  refusal = 0;
+  place = 0;
+  frame = frameOf r;
+  build = buildOf r;
+  floating = floatingAt r;
+  general = generalAt r;
+  locals = localsAt r;
+  «gp_saved» = savesGp r;
+  gp = gpAt r;
+}
+
+-- "Place is 0, .. and the layout's numbers are all 0"; of `$28` it says no.
+abbrev pub refusedLayout : ℕ → Layout
+refusedLayout n = record { refusal = n; place = 0; frame = 0; build = 0; floating = 0; general = 0; locals = 0; «gp_saved» = false; gp = 0 }
+
 unfoldable pub layoutOf : Device → Request → Layout
-layoutOf d r = cond (eqb (refusalOf d r) 0)
-    (record { refusal = 0; place = 0; frame = frameOf r; build = buildOf r; floating = floatingAt r; general = generalAt r; locals = localsAt r })
-    (record { refusal = refusalOf d r; place = 0; frame = 0; build = 0; floating = 0; general = 0; locals = 0 })
+layoutOf d r = cond (eqb (refusalOf d r) 0) (acceptedLayout r) (refusedLayout (refusalOf d r))

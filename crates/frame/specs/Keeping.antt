@@ -8,7 +8,7 @@ use lib.ListN.{length}
 use Rattle.machine.specs.Machine.{State, laterAddress, Holds, Runs}
 use Rattle.frame.specs.declared.Request.{Request}
 use Rattle.frame.specs.Masks.{names, countBelow}
-use Rattle.frame.specs.Frame.{floatingAt, generalAt, frameOf}
+use Rattle.frame.specs.Frame.{floatingAt, frameOf, offsetOfRegister}
 
 -- The words that bytes of code are (1 to 3 bytes at the end are none). "Words are big-endian."
 abbrev pub wordsIn : List ℕ → List ℕ
@@ -32,10 +32,7 @@ pub record Entry (F : ℕ) (s : State) : Type 0 where
   pub word : s .reg 29 < 2 ^ 32
   pub four : s .reg 31 % 4 ≡ 0
 
--- Where register k and pair k are saved, from `$sp`.
-abbrev pub offsetOfRegister : Request → ℕ → ℕ
-offsetOfRegister r k = generalAt r + 4 * countBelow (r .general) k
-
+-- Where pair k is saved, from `$sp`.
 abbrev pub offsetOfPair : Request → ℕ → ℕ
 offsetOfPair r k = floatingAt r + 8 * countBelow (r .pairs) k
 

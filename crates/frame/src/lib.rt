@@ -14,7 +14,7 @@ pub struct Request {
     pub pairs: u32,
 }
 
-// A frame: a refusal, place 0 and all numbers 0, or 0, 0 and the frame's numbers; offsets are from `$sp`.
+// A frame: a refusal, then 0 for every number and no for `$28`; or 0, 0 and what the frame is. Offsets are from `$sp`.
 pub struct Layout {
     pub refusal: u32,
     pub place: u32,
@@ -28,4 +28,8 @@ pub struct Layout {
     pub general: u32,
     // where the locals start
     pub locals: u32,
+    // whether `$28`, the global pointer, is saved
+    pub gp_saved: bool,
+    // the offset of its save word, which may be 0 too; 0 if it is not saved
+    pub gp: u32,
 }

@@ -9,8 +9,8 @@
 // outgoing arguments, general mask, pair mask. Of the words frame and nframe only an n in front is looked at. A line without a room
 // or without 20 bytes of request is answered "malformed". Of the text the first 16,384 bytes are read.
 //
-// The answer is the layout's numbers, F and B first, then for prologue and epilogue the refusal, or the words that were
-// written; their length in bytes, and whether every other byte of the buffer is kept.
+// The answer is the layout's numbers, F and B first and the yes or no for $28 with its offset last, then for prologue and epilogue
+// the refusal, or the words that were written; their length in bytes, and whether every other byte of the buffer is kept.
 ghost use Prim.Native.Nat.{_≤_};
 ghost use lib.ListN.{length};
 use answers::Answer;
@@ -30,6 +30,14 @@ fn print_number(name: &[u8], n: u32) {
     io::print_decimal(STDOUT_FILENO, n as u64);
 }
 
+// The yes or no for $28, and its offset.
+fn print_gp(saved: bool, offset: u32) {
+    if saved {
+        return print_number(b", $28 yes ", offset);
+    }
+    print_number(b", $28 no ", offset);
+}
+
 fn print_layout(layout: Layout) {
     case_output::print_refusal(layout.refusal, layout.place as usize, 0);
     print_number(b"F ", layout.frame);
@@ -37,6 +45,7 @@ fn print_layout(layout: Layout) {
     print_number(b", floating ", layout.floating);
     print_number(b", general ", layout.general);
     print_number(b", locals ", layout.locals);
+    print_gp(layout.gp_saved, layout.gp);
     print(b"\n");
 }
 

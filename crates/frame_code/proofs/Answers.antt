@@ -5,7 +5,6 @@ use mathlib.Core.List.{List, _++_}
 use mathlib.Core.Bool.{Bool, true, false, cond}
 use Prim.Native.Nat.{ℕ, _<_, _≤_}
 use native.Mathlib.Omega.{arith}
-use native.Mathlib.Decide.{ℕ-discrete}
 use native.Mathlib.Nat.{zero-add}
 use lib.ListN.{length, drop}
 use lib.Seq.{sets, sets-eq}
@@ -17,7 +16,7 @@ use Rattle.frame.specs.declared.Request.{Request}
 use Rattle.frame.specs.declared.Layout.{Layout}
 use Rattle.frame.specs.Frame.{refusalOf, frameOf, frameMost, layoutOf}
 use Rattle.words.specs.Words.{bytesOfWords}
-use Rattle.frame.proofs.Accepted.{accepted-savable, accepted, general-le, frame-le}
+use Rattle.frame.proofs.Accepted.{accepted-savable, accepted, general-le, frame-le, layout-accepted, layout-cases}
 use Rattle.frame_code.specs.Areas.{Areas}
 use Rattle.frame_code.specs.Code.{codeInto}
 
@@ -30,19 +29,13 @@ pub record Laid (d : Device) (r : Request) (y : Layout) : Type 0 where
 
 module _ (d : Device) (r : Request) {y : Layout} (l : y ≡ layoutOf d r) where
   refusal-is : y .refusal ≡ refusalOf d r
-  unfolding layoutOf
-  refusal-is = ap (λ (x : Layout). x .refusal) l ∙ by (ℕ-discrete (refusalOf d r) 0)
-    where
-      by : Dec (refusalOf d r ≡ 0) → layoutOf d r .refusal ≡ refusalOf d r
-      by (yes e) = simp (eq-eqb (refusalOf d r) 0 e) (sym e)
-      by (no n) = simp (ne-eqb (refusalOf d r) 0 n)
+  refusal-is = ap (λ (x : Layout). x .refusal) l ∙ layout-cases d r (λ (x : Layout). x .refusal ≡ refusalOf d r) sym (λ n. refl)
 
   pub laid : y .refusal ≡ 0 → Laid d r y
-  unfolding layoutOf
   laid z =
       let e = sym refusal-is ∙ z in
       let a = accepted d r e in
-      let q = simp (eq-eqb (refusalOf d r) 0 e) at l in
+      let q = l ∙ layout-accepted d r e in
       let f = ap (λ (x : Layout). x .frame) q in
       let p = ap (λ (x : Layout). x .floating) q in
       let g = ap (λ (x : Layout). x .general) q in

@@ -7,9 +7,9 @@ ghost use lib.ListN.{length};
 ghost use lib.Seq.{sets};
 ghost use Rattle.words.specs.Words.{up, bytesOfWords};
 ghost use Rattle.answers.specs.Outcomes.{answerOf, bufferOf};
-ghost use Rattle.frame.specs.Frame.{buildFor, exceedsOutgoing, frameMost, hasPairsWithoutUnit, layoutOf, losesReturn, namesUnsavable, outgoingMost, refusalOf};
+ghost use Rattle.frame.specs.Frame.{buildFor, exceedsOutgoing, frameMost, generalAt, gpAt, hasPairsWithoutUnit, layoutOf, losesReturn, namesUnsavable, outgoingMost, refusalOf};
 ghost use Rattle.frame.specs.Words.{savesOf, slotFor, wordOf};
-ghost use Rattle.frame_words.specs.Limits.{opMost};
+ghost use Rattle.frame_words.specs.Limits.{opMost, startMost};
 ghost use Rattle.frame_code.specs.Areas.{Areas};
 ghost use Rattle.frame_code.specs.Code.{epilogueInto, prologueInto};
 ghost use Rattle.frame_code.specs.Longest.{savesMost};
@@ -23,7 +23,7 @@ fn names_unsavable(request: Request) -> bool
     ensures { λ r. ⌜ r ≡ namesUnsavable request ⌝ }
 {
     let general = request.general;
-    if general & 0xC0FF_0000 != general {
+    if general & 0xD0FF_0000 != general {
         return true;
     }
     request.pairs > 63
@@ -103,6 +103,18 @@ fn build_area(leaf: bool, outgoing: u32) -> u32
     if rounded < 16 { 16 } else { rounded }
 }
 
+// The offset of `$28`'s save word, where the request's general save area starts at `start`; 0 if it is not saved.
+fn gp_offset(request: Request, start: u32) -> u32
+    requires { ⌜ (start ≡ generalAt request) × (start ≤ startMost) ⌝ }
+    ensures { λ r. ⌜ r ≡ gpAt request ⌝ }
+{
+    let mask = request.general;
+    if frame_words::is_named(mask, 28) {
+        return start + 4 * frame_words::count_below(mask, 28);
+    }
+    0
+}
+
 // The frame of a request on a device.
 pub fn layout_of(device: Device, request: Request) -> Layout
     ensures { λ r. ⌜ r ≡ layoutOf device request ⌝ }
@@ -117,6 +129,8 @@ pub fn layout_of(device: Device, request: Request) -> Layout
             floating: 0,
             general: 0,
             locals: 0,
+            gp_saved: false,
+            gp: 0,
         };
     }
     let build = build_area(request.leaf, request.outgoing);
@@ -130,6 +144,8 @@ pub fn layout_of(device: Device, request: Request) -> Layout
         floating: build,
         general,
         locals,
+        gp_saved: frame_words::is_named(request.general, 28),
+        gp: gp_offset(request, general),
     }
 }
 

@@ -1,5 +1,5 @@
-// Instructions on save words, upward into a code buffer: the stores of a prologue or the loads of an epilogue. `op` is the
-// instruction's word with register 0 and offset 0; `swc1`'s is the largest.
+// What a mask names; and instructions on save words, upward into a code buffer: the stores of a prologue or the loads of an
+// epilogue. `op` is the instruction's word with register 0 and offset 0; `swc1`'s is the largest.
 ghost use mathlib.Core.List.{[], _∷_, map};
 ghost use mathlib.Core.Path.{_≡_};
 ghost use Prim.Native.Nat.{_%_, _*_, _+_, _<_, _≤_};
@@ -11,7 +11,7 @@ ghost use Rattle.frame.specs.Words.{collect, pairAt, registerAt, wordOf};
 ghost use Rattle.frame_words.specs.Limits.{offsetMost, opMost, startMost};
 
 // Whether a mask names register k.
-fn is_named(mask: u32, k: u32) -> bool
+pub fn is_named(mask: u32, k: u32) -> bool
     requires { ⌜ k < 32 ⌝ }
     ensures { λ r. ⌜ r ≡ names mask k ⌝ }
 {
@@ -19,7 +19,7 @@ fn is_named(mask: u32, k: u32) -> bool
 }
 
 // How many registers below k a mask names.
-fn count_below(mask: u32, k: u32) -> u32
+pub fn count_below(mask: u32, k: u32) -> u32
     requires { ⌜ k < 32 ⌝ }
     ensures { λ r. ⌜ (r ≡ countBelow mask k) × (r ≤ k) ⌝ }
 {

@@ -43,18 +43,30 @@ add-round-up c = let s = request-accepted (c .before .before .before .before .be
 round-up-requires-2 : tie.Need-round-up-requires-2
 round-up-requires-2 c κs = let s = request-accepted (c .before .before .before .before .before) in omega arith
 
+is-named-requires : tie.Need-is-named-requires
+is-named-requires c κs = search needs
+
+gp-offset-requires : tie.Need-gp-offset-requires
+unfolding generalAt
+gp-offset-requires c κs =
+    let s = request-accepted (c .before .before .before .before .before .before .before) in
+    let b = c .before .before .before .before .before .before .build-area .ensures in
+    (omega (arith, b, s .counts .pairs), omega (arith, s .build, s .counts .pairs, s .counts .few-pairs, b))
+
 returns-2 : tie.Need-returns-2
 unfolding layoutOf frameOf localsAt generalAt
 returns-2 c =
-    let s = request-accepted (c .before .before .before .before .before .before) in
+    let s = request-accepted (c .before .before .before .before .before .before .before .before) in
     simp (
-      ← c .before .before .before .before .before .before .before .refusal .ensures,
-      eq-eqb _ _ (c .before .before .before .before .before .before .if1 .left),
+      ← c .before .before .before .before .before .before .before .before .before .refusal .ensures,
+      eq-eqb _ _ (c .before .before .before .before .before .before .before .before .if1 .left),
       ← s .counts .pairs,
       ← s .counts .general,
-      c .round-up2 .ensures,
-      c .before .before .round-up .ensures,
-      c .before .before .before .before .before .build-area .ensures,
+      c .before .before .round-up2 .ensures,
+      c .before .before .before .before .round-up .ensures,
+      c .before .before .before .before .before .before .before .build-area .ensures,
+      c .before .is-named .ensures,
+      c .gp-offset .ensures,
     )
 
 pub layout-of-spec : {M : Type 1} → statement M
@@ -71,4 +83,6 @@ layout-of-spec =
     add-locals
     add-round-up
     round-up-requires-2
+    is-named-requires
+    gp-offset-requires
     returns-2)
