@@ -305,7 +305,9 @@
  *   outgoing  most bytes of arguments that it passes to a function it calls, at
  *             most 1,024; 0 in a leaf
  *   general   mask of general registers to save: bit k is $k, of $16 to $23,
- *             $30 and $31. A function that is no leaf must save $31.
+ *             $28, $30 and $31. A function that is no leaf must save $31. $28
+ *             is the global pointer: name it in a function that changes it,
+ *             which isn't checked.
  *   pairs     mask of floating pairs to save: bit k, from 0 to 5, is $f20 + 2k
  *             and the register behind it; 0 without a floating-point unit
  *
@@ -316,14 +318,14 @@
  *   the general save area     4 bytes for each register, rounded up to 8
  *   the locals
  *
- * and ends at the end of the locals rounded up to 8, at most at 17,496. Lower
+ * and ends at the end of the locals rounded up to 8, at most at 17,504. Lower
  * register numbers lie lower.
  *
  * The prologue is addiu $sp,$sp,-F for a frame of F bytes, then swc1 for the
  * floating registers and sw for the general ones, both from the lowest number
  * upward; it is empty if F is 0. The epilogue is lwc1 and lw in the same order,
  * then jr $31, and in its delay slot addiu $sp,$sp,F, or a no-operation if F is
- * 0. The longest prologue has 92 bytes, the longest epilogue 96.
+ * 0. The longest prologue has 96 bytes, the longest epilogue 100.
  *
  * Checks in this order; place and, where there is one, argument are 0 for all:
  *
@@ -343,7 +345,7 @@
 #include <stdint.h>
 
 /* The version of this header. The library's must be the same. */
-#define O32_VERSION 4
+#define O32_VERSION 5
 
 /*
  * Makes the compiler warn where an answer is ignored: by the language's own
@@ -381,8 +383,8 @@ extern "C" {
 #define O32_PLAN_WORDS 98     /* every plan, in words */
 #define O32_IMAGE_MAX 1056    /* the longest image */
 #define O32_BODIES_MAX 1020   /* the most bytes of bodies behind a marker */
-#define O32_PROLOGUE_MAX 92   /* the longest prologue */
-#define O32_EPILOGUE_MAX 96   /* the longest epilogue */
+#define O32_PROLOGUE_MAX 96   /* the longest prologue */
+#define O32_EPILOGUE_MAX 100  /* the longest epilogue */
 
 /* The refusal numbers. */
 enum o32_refusal {
@@ -436,7 +438,8 @@ typedef struct {
 
 /*
  * What o32_frame answers. Offsets are from $sp inside the frame; that of an
- * empty area is the end of the area below. On a refusal all numbers but
+ * empty area is the end of the area below. `gp` may be 0 also where $28 is
+ * saved, so `gp_saved` says whether it is. On a refusal all numbers but
  * `refusal` are 0.
  */
 typedef struct {
@@ -447,6 +450,8 @@ typedef struct {
     uint32_t floating; /* offset of the floating save area */
     uint32_t general;  /* offset of the general save area */
     uint32_t locals;   /* offset of the locals */
+    uint32_t gp_saved; /* 1 if $28, the global pointer, is saved, else 0 */
+    uint32_t gp;       /* offset of the word it is saved in; 0 if it isn't */
 } o32_layout;
 
 /* What o32_describe answers. On a refusal size, alignment and kind are 0. */

@@ -82,7 +82,8 @@ static int is_refused(o32_layout layout, uint32_t refusal)
 {
     return layout.refusal == refusal && layout.place == 0 &&
            layout.frame == 0 && layout.build == 0 && layout.floating == 0 &&
-           layout.general == 0 && layout.locals == 0;
+           layout.general == 0 && layout.locals == 0 &&
+           layout.gp_saved == 0 && layout.gp == 0;
 }
 
 static int is_structure(o32_structure structure, uint32_t size,
@@ -692,6 +693,17 @@ static void ellipsis(void)
     improper_before_marker();
 }
 
+/* What o32_frame answers is nine words. */
+static void words_of_layout(void)
+{
+    const size_t word = sizeof(uint32_t);
+    check(sizeof(o32_layout) == 9 * word &&
+              offsetof(o32_layout, locals) == 6 * word &&
+              offsetof(o32_layout, gp_saved) == 7 * word &&
+              offsetof(o32_layout, gp) == 8 * word,
+          "a layout is nine words, and the last two are of $28");
+}
+
 /* A function that calls others, saves $16 and has one word of locals. */
 static void example_frame(void)
 {
@@ -707,7 +719,8 @@ static void example_frame(void)
            (unsigned long)layout.locals);
     check(layout.refusal == 0 && layout.place == 0 && layout.frame == 32 &&
               layout.build == 16 && layout.floating == 16 &&
-              layout.general == 16 && layout.locals == 24,
+              layout.general == 16 && layout.locals == 24 &&
+              layout.gp_saved == 0 && layout.gp == 0,
           "the frame is laid out as expected");
 
     uint8_t *code = buffer(12);
@@ -731,6 +744,115 @@ static void example_frame(void)
           "without $31 the frame is refused");
     check(o32_frame(O32_FPU, 2, 0, 0, 0, 0).refusal == 0,
           "any leaf but 0 is a leaf");
+}
+
+/* The masks of $28, of $23 and $30, and of all registers that may be saved. */
+static const uint32_t gp_mask = UINT32_C(1) << 28;
+static const uint32_t around_gp = UINT32_C(1) << 23 | UINT32_C(1) << 30;
+static const uint32_t all_registers = 0xD0FF0000;
+
+/* Whether a leaf with this mask has this frame, and $28 saved like this. */
+static int leaf_has_gp(uint32_t general, uint32_t frame, uint32_t gp_saved,
+                       uint32_t gp)
+{
+    o32_layout layout = o32_frame(O32_FPU, 1, 0, 0, general, 0);
+    return layout.refusal == 0 && layout.frame == frame &&
+           layout.gp_saved == gp_saved && layout.gp == gp;
+}
+
+/* A function that changes the global pointer saves $28 like the others. */
+static void global_pointer(void)
+{
+    const uint32_t beside_sp = gp_mask | UINT32_C(1) << 29;
+
+    check(leaf_has_gp(around_gp | gp_mask, 16, 1, 4),
+          "$28 is saved between $23 and $30");
+    check(leaf_has_gp(gp_mask, 8, 1, 0), "alone in a leaf it is saved at 0");
+    check(leaf_has_gp(around_gp, 8, 0, 0) && leaf_has_gp(0, 0, 0, 0),
+          "where it isn't named it isn't saved");
+    check(is_refused(o32_frame(O32_FPU, 1, 0, 0, beside_sp, 0), O32_MASKS),
+          "$29 may not be named beside it");
+}
+
+/* The words of a leaf that saves $23, $28 and $30. */
+static void code_with_gp(void)
+{
+    static const uint32_t prologue[] = {0x27BDFFF0, 0xAFB70000, 0xAFBC0004,
+                                        0xAFBE0008};
+    static const uint32_t epilogue[] = {0x8FB70000, 0x8FBC0004, 0x8FBE0008,
+                                        0x03E00008, 0x27BD0010};
+    const uint32_t general = around_gp | gp_mask;
+
+    uint8_t *code = buffer(16);
+    check(is_answer(o32_prologue(O32_FPU, 1, 0, 0, general, 0, code, 16), 0, 0,
+                    0, 16) &&
+              are_words(code, prologue, 4),
+          "the prologue stores $28 in the order of the numbers");
+    free(code);
+
+    code = buffer(20);
+    check(is_answer(o32_epilogue(O32_FPU, 1, 0, 0, general, 0, code, 20), 0, 0,
+                    0, 20) &&
+              are_words(code, epilogue, 5),
+          "the epilogue loads it in the same order");
+    free(code);
+}
+
+/* The code of a function that saves all that it may, in a buffer. */
+static o32_answer longest_prologue(uint8_t *code, size_t length)
+{
+    return o32_prologue(O32_FPU, 0, 16384, 1024, all_registers, 63, code,
+                        length);
+}
+
+static o32_answer longest_epilogue(uint8_t *code, size_t length)
+{
+    return o32_epilogue(O32_FPU, 0, 16384, 1024, all_registers, 63, code,
+                        length);
+}
+
+/* Whether code fits a fresh buffer of this length, and none of a byte less. */
+static int fits_exactly(o32_answer (*write)(uint8_t *, size_t), uint8_t *code,
+                        uint32_t length)
+{
+    return is_answer(write(code, length - 1), O32_SHORT_CODE, 0, 0, 0) &&
+           all_are(code, length, 0xA5) &&
+           is_answer(write(code, length), 0, 0, 0, length);
+}
+
+/* The largest frame, with code buffers of the length and one byte less. */
+static void largest_frame(void)
+{
+    o32_layout layout = o32_frame(O32_FPU, 0, 16384, 1024, all_registers, 63);
+    check(layout.refusal == 0 && layout.frame == 17504 &&
+              layout.general == 1072 && layout.locals == 1120 &&
+              layout.gp_saved == 1 && layout.gp == 1104,
+          "the largest frame has 17,504 bytes");
+
+    uint8_t *code = buffer(O32_PROLOGUE_MAX);
+    check(O32_PROLOGUE_MAX == 96 &&
+              fits_exactly(longest_prologue, code, O32_PROLOGUE_MAX) &&
+              word_at(code, 0) == 0x27BDBBA0 &&
+              word_at(code, 23) == 0xAFBF0458,
+          "its prologue has 96 bytes, and no shorter buffer will do");
+    free(code);
+
+    code = buffer(O32_EPILOGUE_MAX);
+    check(O32_EPILOGUE_MAX == 100 &&
+              fits_exactly(longest_epilogue, code, O32_EPILOGUE_MAX) &&
+              word_at(code, 22) == 0x8FBF0458 &&
+              word_at(code, 24) == 0x27BD4460,
+          "its epilogue has 100 bytes, and no shorter buffer will do");
+    free(code);
+}
+
+static void frames(void)
+{
+    words_of_layout();
+    example_frame();
+    global_pointer();
+    code_with_gp();
+    largest_frame();
 }
 
 /* A double, a single and a double. */
@@ -935,7 +1057,7 @@ int main(void)
     refusals();
     argument_numbers();
     ellipsis();
-    example_frame();
+    frames();
     devices();
     described_argument();
     descriptions_cut_off();

@@ -170,7 +170,7 @@ const FULL_FRAME: raw::Request = raw::Request {
     leaf: 0,
     locals: 100,
     outgoing: 32,
-    general: 0xC0FF_0000,
+    general: 0xD0FF_0000,
     pairs: 63,
 };
 

@@ -9,7 +9,7 @@ use compare::rng::Rng;
 use model::{Answer, Layout, Structure};
 use o32::{raw, Device, LIST_MAX};
 
-use crate::coverage::{Coverage, Operation};
+use crate::coverage::{Coverage, GlobalPointer, Operation};
 use crate::guarded::{Guarded, Input, Noise};
 use crate::readers::{bodies_behind_marker, Inputs, Reader};
 use crate::report::{answer_text, answers, change, difference, hex, hex_beginning};
@@ -116,6 +116,9 @@ impl Comparison {
             }
             for join in self.coverage.missing_joins(device) {
                 self.fail(|| format!("joined groups: too few inputs are {join:?}"));
+            }
+            for answer in self.coverage.missing_global_pointers(device) {
+                self.fail(|| format!("Frame: no input is answered with $28 {answer:?}"));
             }
         }
         self.start_group_without_device("coverage");
@@ -257,6 +260,10 @@ impl Comparison {
     pub fn frame(&mut self, request: raw::Request) {
         let layout = layout_of(raw::frame(self.device, request));
         let expected = model::frame(model_device(self.device), model_request(request));
+        if expected.refusal == 0 {
+            self.coverage
+                .count_global_pointer(GlobalPointer::of(&expected), self.device);
+        }
         self.count(
             Operation::Frame,
             expected.refusal,
@@ -388,6 +395,8 @@ fn layout_of(layout: raw::Layout) -> Layout {
         floating,
         general,
         locals,
+        gp_saved,
+        gp,
     } = layout;
     Layout {
         refusal,
@@ -397,6 +406,8 @@ fn layout_of(layout: raw::Layout) -> Layout {
         floating,
         general,
         locals,
+        gp_saved,
+        gp,
     }
 }
 

@@ -1,8 +1,9 @@
 //! Which answers the inputs have led to.
 
+use std::fmt::Debug;
 use std::iter;
 
-use model::Cause;
+use model::{Cause, Layout};
 use o32::Device;
 
 use crate::comparison::DEVICES;
@@ -78,6 +79,31 @@ impl Join {
     const ALL: [Join; 4] = [Join::Beyond, Join::Moved, Join::SameEnd, Join::OtherEnd];
 }
 
+/// What a frame that is accepted answers of `$28`, the global pointer.
+#[derive(Clone, Copy, Debug, PartialEq, Eq)]
+pub enum GlobalPointer {
+    NotSaved,
+    /// At offset 0, which is also the number of one that isn't saved.
+    SavedAtZero,
+    SavedAbove,
+}
+
+impl GlobalPointer {
+    const ALL: [GlobalPointer; 3] = [
+        GlobalPointer::NotSaved,
+        GlobalPointer::SavedAtZero,
+        GlobalPointer::SavedAbove,
+    ];
+
+    pub fn of(layout: &Layout) -> Self {
+        match (layout.gp_saved, layout.gp) {
+            (0, _) => GlobalPointer::NotSaved,
+            (_, 0) => GlobalPointer::SavedAtZero,
+            _ => GlobalPointer::SavedAbove,
+        }
+    }
+}
+
 /// How often each answer was expected of one operation.
 #[derive(Clone, Copy, Default)]
 struct Counts([u64; ANSWERS]);
@@ -108,6 +134,7 @@ impl Counts {
 pub struct Coverage {
     seen: [[Counts; DEVICES.len()]; Operation::ALL.len()],
     joins: [[u64; DEVICES.len()]; Join::ALL.len()],
+    global_pointers: [[u64; DEVICES.len()]; GlobalPointer::ALL.len()],
     signatures: Counts,
     /// Of descriptions: success, then each cause of a refusal.
     descriptions: [u64; 1 + Cause::ALL.len()],
@@ -134,26 +161,38 @@ impl Coverage {
     }
 
     /// The cases of joined groups with how often each was asked.
-    fn joins(&self, device: Device) -> impl Iterator<Item = (Join, u64)> + '_ {
-        Join::ALL
-            .into_iter()
-            .zip(self.joins.iter().map(move |counts| counts[device as usize]))
+    fn joins(&self, device: Device) -> Vec<(Join, u64)> {
+        on_device(device, Join::ALL, &self.joins)
     }
 
     /// The cases of joined groups that too few inputs have led to.
     pub fn missing_joins(&self, device: Device) -> Vec<Join> {
-        self.joins(device)
-            .filter(|&(_, count)| count < LEAST_JOINS)
-            .map(|(join, _)| join)
-            .collect()
+        fewer_than(LEAST_JOINS, self.joins(device))
     }
 
     /// How often each case of joined groups was asked.
     pub fn joins_text(&self, device: Device) -> String {
-        self.joins(device)
-            .map(|(join, count)| format!("{count} {join:?}"))
-            .collect::<Vec<_>>()
-            .join(", ")
+        cases_text(self.joins(device))
+    }
+
+    /// Counts an accepted frame by what is answered of `$28`.
+    pub fn count_global_pointer(&mut self, answer: GlobalPointer, device: Device) {
+        self.global_pointers[answer as usize][device as usize] += 1;
+    }
+
+    /// The answers of `$28` with how often each was expected.
+    fn global_pointers(&self, device: Device) -> Vec<(GlobalPointer, u64)> {
+        on_device(device, GlobalPointer::ALL, &self.global_pointers)
+    }
+
+    /// The answers of `$28` that no input has led to.
+    pub fn missing_global_pointers(&self, device: Device) -> Vec<GlobalPointer> {
+        fewer_than(1, self.global_pointers(device))
+    }
+
+    /// How often each answer of `$28` was expected.
+    pub fn global_pointers_text(&self, device: Device) -> String {
+        cases_text(self.global_pointers(device))
     }
 
     /// Counts a list whose signature is asked for.
@@ -200,4 +239,31 @@ impl Coverage {
             .collect::<Vec<_>>()
             .join(", ")
     }
+}
+
+/// The cases with how often each was met on a device.
+fn on_device<T, const N: usize>(
+    device: Device,
+    cases: [T; N],
+    counts: &[[u64; DEVICES.len()]; N],
+) -> Vec<(T, u64)> {
+    let counts = counts.map(|counts| counts[device as usize]);
+    cases.into_iter().zip(counts).collect()
+}
+
+/// The cases that were met fewer times.
+fn fewer_than<T>(least: u64, cases: Vec<(T, u64)>) -> Vec<T> {
+    cases
+        .into_iter()
+        .filter(|&(_, count)| count < least)
+        .map(|(case, _)| case)
+        .collect()
+}
+
+fn cases_text<T: Debug>(cases: Vec<(T, u64)>) -> String {
+    cases
+        .iter()
+        .map(|(case, count)| format!("{count} {case:?}"))
+        .collect::<Vec<_>>()
+        .join(", ")
 }

@@ -7,8 +7,9 @@ use o32::Device;
 use crate::comparison::{model_code, Code, Comparison};
 use crate::lists::LONG;
 
-/// `$16` to `$23`, `$30` and `$31`.
-const ALL_REGISTERS: u32 = 0xC0FF_0000;
+/// `$16` to `$23`, `$28`, `$30` and `$31`.
+const ALL_REGISTERS: u32 = 0xD0FF_0000;
+const GLOBAL_POINTER: u32 = 1 << 28;
 const RETURN_ADDRESS: u32 = 1 << 31;
 
 /// More than any prologue or epilogue has.
@@ -54,12 +55,18 @@ const OUTGOING: [u32; 15] = [
     u32::MAX,
 ];
 
-const GENERAL: [u32; 9] = [
+const GENERAL: [u32; 15] = [
     0,
     RETURN_ADDRESS,
     RETURN_ADDRESS | 1 << 16,
     1 << 30,
+    GLOBAL_POINTER,
+    GLOBAL_POINTER | RETURN_ADDRESS,
+    GLOBAL_POINTER | 1 << 23 | 1 << 30,
+    GLOBAL_POINTER | 1 << 23 | 1 << 30 | RETURN_ADDRESS,
+    GLOBAL_POINTER | 1 << 29,
     ALL_REGISTERS,
+    ALL_REGISTERS & !GLOBAL_POINTER,
     ALL_REGISTERS & !RETURN_ADDRESS,
     ALL_REGISTERS | 1 << 15,
     ALL_REGISTERS | 1 << 29,
@@ -126,17 +133,26 @@ pub fn small_masks_and_all_pairs(comparison: &mut Comparison, rng: &mut Rng) {
     }
 }
 
-/// All masks of the registers that may be saved.
+/// All masks of the registers that may be saved, from none of them upward.
+fn masks_of_saved() -> impl Iterator<Item = u32> {
+    // The bits of all other registers are set, so that the carry passes them.
+    let next = |&mask: &u32| (mask | !ALL_REGISTERS).checked_add(1);
+    std::iter::successors(Some(0), next).map(|mask| mask & ALL_REGISTERS)
+}
+
 pub fn saved_masks(comparison: &mut Comparison, rng: &mut Rng) {
-    for bits in 0..1 << 10 {
-        for pairs in [0, 63, rng.below(64) as u32] {
-            let request = Request {
-                leaf: rng.below(2) as u32,
-                general: (bits & 0xFF) << 16 | bits >> 8 << 30,
-                pairs,
-                ..Request::default()
-            };
-            all_three(comparison, request);
+    for general in masks_of_saved() {
+        // Only a leaf may leave `$31` out.
+        for leaf in [0, 1] {
+            for pairs in [0, 63, rng.below(64) as u32] {
+                let request = Request {
+                    leaf,
+                    general,
+                    pairs,
+                    ..Request::default()
+                };
+                all_three(comparison, request);
+            }
         }
     }
 }

@@ -282,6 +282,10 @@ fn print_answers(coverage: &Coverage) {
             let answers = coverage.text(operation, device);
             println!("answers compared, {device:?}, {operation:?}: {answers}");
         }
+        println!(
+            "answers compared, {device:?}, $28 of Frame: {}",
+            coverage.global_pointers_text(device)
+        );
         println!("joined groups, {device:?}: {}", coverage.joins_text(device));
     }
     println!(

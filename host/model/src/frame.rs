@@ -17,7 +17,7 @@ pub struct Request {
     pub pairs: u32,
 }
 
-/// A frame's size and the offsets of its areas from `$sp`.
+/// A frame's size, and the offsets of its areas and of a saved `$28` from `$sp`.
 #[derive(Clone, Copy, Debug, Default, PartialEq, Eq)]
 pub struct Layout {
     pub refusal: u32,
@@ -32,11 +32,17 @@ pub struct Layout {
     pub general: u32,
     /// Offset of the locals.
     pub locals: u32,
+    /// 1 if `$28`, the global pointer, is saved, otherwise 0.
+    pub gp_saved: u32,
+    /// Offset of the word that `$28` is saved in; 0 if it isn't saved.
+    pub gp: u32,
 }
 
-/// `$16` to `$23`, `$30` and `$31`: what a function may have to save.
-const SAVED_REGISTERS: u32 = 0xC0FF_0000;
+/// `$16` to `$23`, `$28`, `$30` and `$31`: what a function may have to save.
+const SAVED_REGISTERS: u32 = 0xD0FF_0000;
 const RETURN_ADDRESS: u32 = 1 << 31;
+/// The number of the register that is the global pointer.
+const GLOBAL_POINTER: u32 = 28;
 const PAIR_LIMIT: u32 = 63;
 const LOCALS_LIMIT: u32 = 16_384;
 const OUTGOING_LIMIT: u32 = 1_024;
@@ -105,6 +111,8 @@ fn lay_out(device: Device, request: &Request) -> Result<Layout, Refusal> {
     let floating = build;
     let general = floating + 8 * request.pairs.count_ones();
     let locals = general + (4 * request.general.count_ones()).next_multiple_of(8);
+    let gp = with_offsets(bits(request.general), general)
+        .find_map(|(register, offset)| (register == GLOBAL_POINTER).then_some(offset));
     Ok(Layout {
         refusal: 0,
         place: 0,
@@ -113,7 +121,18 @@ fn lay_out(device: Device, request: &Request) -> Result<Layout, Refusal> {
         floating,
         general,
         locals,
+        gp_saved: gp.is_some().into(),
+        gp: gp.unwrap_or(0),
     })
+}
+
+/// Registers with the offsets of the words that they are saved in, one behind
+/// the other from the start of their area.
+fn with_offsets(
+    registers: impl Iterator<Item = u32>,
+    area: u32,
+) -> impl Iterator<Item = (u32, u32)> {
+    registers.zip((area..).step_by(4))
 }
 
 fn write_prologue(device: Device, request: &Request, code: &mut [u8]) -> Result<usize, Refusal> {
@@ -146,7 +165,7 @@ fn write_epilogue(device: Device, request: &Request, code: &mut [u8]) -> Result<
     Ok(4 * words)
 }
 
-/// `addiu $sp,$sp,amount`; the amount is at most 17,496 either way.
+/// `addiu $sp,$sp,amount`; the amount is at most 17,504 either way.
 fn adjust_sp(amount: u32) -> u32 {
     ADDIU_SP | amount & 0xFFFF
 }
@@ -185,8 +204,7 @@ impl<'a> Code<'a> {
     }
 
     fn put_each(&mut self, opcode: u32, registers: impl Iterator<Item = u32>, area: u32) {
-        registers
-            .zip((area..).step_by(4))
+        with_offsets(registers, area)
             .for_each(|(register, offset)| self.put(opcode + (register << 16) + offset));
     }
 }

@@ -546,6 +546,7 @@ const EXAMPLE: Request = Request {
     pairs: 0,
 };
 
+/// A layout that doesn't save `$28`.
 fn layout(numbers: [u32; 5]) -> Layout {
     let [frame, build, floating, general, locals] = numbers;
     Layout {
@@ -556,8 +557,25 @@ fn layout(numbers: [u32; 5]) -> Layout {
         floating,
         general,
         locals,
+        gp_saved: 0,
+        gp: 0,
     }
 }
+
+/// One that saves it at an offset.
+fn layout_with_gp(numbers: [u32; 5], gp: u32) -> Layout {
+    Layout {
+        gp_saved: 1,
+        gp,
+        ..layout(numbers)
+    }
+}
+
+/// `$28`, the global pointer.
+const GP: u32 = 1 << 28;
+
+/// `$16` to `$23`, `$28`, `$30` and `$31`.
+const ALL_REGISTERS: u32 = 0xD0FF_0000;
 
 fn codes(device: Device, request: Request) -> (Vec<u8>, Vec<u8>) {
     let mut buffer = [0xA5; 128];
@@ -617,50 +635,194 @@ fn a_leaf_without_anything_has_no_frame() {
     }
 }
 
+const LARGEST: Request = Request {
+    leaf: false,
+    locals: 16_384,
+    outgoing: 1_024,
+    general: ALL_REGISTERS,
+    pairs: 63,
+};
+
+/// The general area has 44 bytes, rounded up to 48.
 #[test]
 fn the_largest_frame() {
+    assert_eq!(
+        frame(Fpu, LARGEST),
+        layout_with_gp([17_504, 1024, 1024, 1072, 1072 + 48], 1104)
+    );
+    // One byte less than the code has.
+    assert_eq!(prologue(Fpu, LARGEST, &mut [0; 95]), refused(13, 0, 0));
+    assert_eq!(epilogue(Fpu, LARGEST, &mut [0; 99]), refused(13, 0, 0));
+    let (prologue, epilogue) = codes(Fpu, LARGEST);
+    // -17,504 is BBA0 in sixteen bits.
+    let stores = hex("27BDBBA0
+        E7B40400 E7B50404 E7B60408 E7B7040C E7B80410 E7B90414
+        E7BA0418 E7BB041C E7BC0420 E7BD0424 E7BE0428 E7BF042C
+        AFB00430 AFB10434 AFB20438 AFB3043C AFB40440 AFB50444 AFB60448 AFB7044C
+        AFBC0450 AFBE0454 AFBF0458");
+    let loads = hex("
+        C7B40400 C7B50404 C7B60408 C7B7040C C7B80410 C7B90414
+        C7BA0418 C7BB041C C7BC0420 C7BD0424 C7BE0428 C7BF042C
+        8FB00430 8FB10434 8FB20438 8FB3043C 8FB40440 8FB50444 8FB60448 8FB7044C
+        8FBC0450 8FBE0454 8FBF0458 03E00008 27BD4460");
+    assert_eq!((prologue.len(), epilogue.len()), (96, 100));
+    assert_eq!(prologue, stores);
+    assert_eq!(epilogue, loads);
+}
+
+#[test]
+fn the_largest_frame_without_a_unit() {
     let request = Request {
-        leaf: false,
-        locals: 16_384,
-        outgoing: 1_024,
-        general: 0xC0FF_0000,
-        pairs: 63,
+        pairs: 0,
+        ..LARGEST
+    };
+    // The floating save area is empty, which leaves out 48 of 17,504 bytes.
+    assert_eq!(
+        frame(NoFpu, request),
+        layout_with_gp([17_456, 1024, 1024, 1024, 1024 + 48], 1056)
+    );
+    let (prologue, epilogue) = codes(NoFpu, request);
+    // -17,456 is BBD0 in sixteen bits.
+    let stores = hex("27BDBBD0
+        AFB00400 AFB10404 AFB20408 AFB3040C AFB40410 AFB50414 AFB60418 AFB7041C
+        AFBC0420 AFBE0424 AFBF0428");
+    let loads = hex("
+        8FB00400 8FB10404 8FB20408 8FB3040C 8FB40410 8FB50414 8FB60418 8FB7041C
+        8FBC0420 8FBE0424 8FBF0428 03E00008 27BD4430");
+    assert_eq!((prologue.len(), epilogue.len()), (48, 52));
+    assert_eq!(prologue, stores);
+    assert_eq!(epilogue, loads);
+}
+
+/// Ten registers take 40 bytes, which leaves no padding.
+#[test]
+fn the_largest_frame_that_keeps_no_global_pointer() {
+    let request = Request {
+        general: ALL_REGISTERS & !GP,
+        ..LARGEST
     };
     assert_eq!(
         frame(Fpu, request),
         layout([17_496, 1024, 1024, 1072, 1112])
     );
     let (prologue, epilogue) = codes(Fpu, request);
-    assert_eq!(prologue.len(), 4 * 23);
-    assert_eq!(epilogue.len(), 4 * 24);
+    assert_eq!((prologue.len(), epilogue.len()), (92, 96));
     // -17,496 is BBA8 in sixteen bits.
     assert_eq!(prologue[..12], hex("27BDBBA8 E7B40400 E7B50404"));
     assert_eq!(prologue[48..56], hex("E7BF042C AFB00430"));
-    assert_eq!(prologue[84..], hex("AFBE0450 AFBF0454"));
-    assert_eq!(epilogue[88..], hex("03E00008 27BD4458"));
+    assert_eq!(prologue[80..], hex("AFB7044C AFBE0450 AFBF0454"));
+    assert_eq!(
+        epilogue[76..],
+        hex("8FB7044C 8FBE0450 8FBF0454 03E00008 27BD4458")
+    );
+}
+
+/// Saved at offset 0, which the yes tells from not saved.
+#[test]
+fn the_global_pointer_alone_in_a_leaf() {
+    let request = Request {
+        leaf: true,
+        general: GP,
+        ..Request::default()
+    };
+    for device in [Fpu, NoFpu] {
+        assert_eq!(frame(device, request), layout_with_gp([8, 0, 0, 0, 8], 0));
+        let (prologue, epilogue) = codes(device, request);
+        assert_eq!(prologue, hex("27BDFFF8 AFBC0000"));
+        assert_eq!(epilogue, hex("8FBC0000 03E00008 27BD0008"));
+    }
 }
 
 #[test]
-fn the_largest_frame_without_a_unit() {
+fn the_global_pointer_lies_between_23_and_30() {
+    let request = Request {
+        leaf: true,
+        general: 1 << 23 | GP | 1 << 30,
+        ..Request::default()
+    };
+    for device in [Fpu, NoFpu] {
+        assert_eq!(frame(device, request), layout_with_gp([16, 0, 0, 0, 16], 4));
+        let (prologue, epilogue) = codes(device, request);
+        assert_eq!(prologue, hex("27BDFFF0 AFB70000 AFBC0004 AFBE0008"));
+        assert_eq!(
+            epilogue,
+            hex("8FB70000 8FBC0004 8FBE0008 03E00008 27BD0010")
+        );
+    }
+}
+
+/// Not from the start of the general area.
+#[test]
+fn the_offset_of_the_global_pointer_is_from_sp() {
     let request = Request {
         leaf: false,
-        locals: 16_384,
-        outgoing: 1_024,
-        general: 0xC0FF_0000,
-        pairs: 0,
+        locals: 4,
+        outgoing: 17,
+        general: 1 << 16 | GP | 1 << 31,
+        pairs: 0b10,
     };
-    // The floating save area is empty, which leaves out 48 of 17,496 bytes.
     assert_eq!(
-        frame(NoFpu, request),
-        layout([17_448, 1024, 1024, 1024, 1064])
+        frame(Fpu, request),
+        layout_with_gp([56, 24, 24, 32, 48], 36)
     );
-    let (prologue, epilogue) = codes(NoFpu, request);
-    assert_eq!(prologue.len(), 4 * 11);
-    assert_eq!(epilogue.len(), 4 * 12);
-    // -17,448 is BBD8 in sixteen bits.
-    assert_eq!(prologue[..8], hex("27BDBBD8 AFB00400"));
-    assert_eq!(prologue[36..], hex("AFBE0420 AFBF0424"));
-    assert_eq!(epilogue[40..], hex("03E00008 27BD4428"));
+    let (prologue, epilogue) = codes(Fpu, request);
+    assert_eq!(
+        prologue,
+        hex("27BDFFC8 E7B60018 E7B7001C AFB00020 AFBC0024 AFBF0028")
+    );
+    assert_eq!(
+        epilogue,
+        hex("C7B60018 C7B7001C 8FB00020 8FBC0024 8FBF0028 03E00008 27BD0038")
+    );
+}
+
+/// The masks of the eleven registers that may be saved.
+fn saved_masks() -> impl Iterator<Item = u32> {
+    let registers = [16, 17, 18, 19, 20, 21, 22, 23, 28, 30, 31];
+    (0..1 << registers.len()).map(move |choice| {
+        let chosen = (0..registers.len()).filter(|index| choice >> index & 1 == 1);
+        chosen.map(|index| 1 << registers[index]).sum()
+    })
+}
+
+/// The words of code that begin with these 16 bits, by their index.
+fn words_of(code: &[u8], upper: u16) -> Vec<(usize, u32)> {
+    code.chunks_exact(4)
+        .map(|bytes| u32::from_be_bytes(bytes.try_into().expect("four bytes")))
+        .enumerate()
+        .filter(|&(_, word)| word >> 16 == u32::from(upper))
+        .collect()
+}
+
+/// Each lower register that is saved has four bytes below the global pointer.
+#[test]
+fn the_global_pointer_in_every_mask() {
+    for general in saved_masks() {
+        let request = Request {
+            leaf: true,
+            general,
+            pairs: 0b101,
+            ..Request::default()
+        };
+        let lower = (general & 0x00FF_0000).count_ones();
+        // Two pairs take the 16 bytes below.
+        let saved_at = (general & GP != 0).then_some(16 + 4 * lower);
+        let layout = frame(Fpu, request);
+        assert_eq!(layout.refusal, 0);
+        assert_eq!(
+            (layout.gp_saved, layout.gp),
+            saved_at.map_or((0, 0), |offset| (1, offset)),
+            "{general:08X}"
+        );
+
+        let (prologue, epilogue) = codes(Fpu, request);
+        let index = 4 + lower as usize;
+        let stores = saved_at.map(|offset| (1 + index, 0xAFBC_0000 + offset));
+        let loads = saved_at.map(|offset| (index, 0x8FBC_0000 + offset));
+        assert_eq!(words_of(&prologue, 0xAFBC), Vec::from_iter(stores));
+        assert_eq!(words_of(&epilogue, 0x8FBC), Vec::from_iter(loads));
+    }
+    assert_eq!(saved_masks().count(), 2_048);
 }
 
 #[test]
@@ -739,13 +901,84 @@ fn frame_refusals_in_their_order() {
         check_frame_refusal(Fpu, request, number);
         check_frame_refusal(NoFpu, request, number);
     }
-    for bit in (0..16).chain(24..30) {
-        let request = Request {
-            general: 1 << bit,
-            ..leaf
-        };
-        assert_eq!(frame(Fpu, request).refusal, 9);
+}
+
+/// `$28` is admitted, its neighbours aren't, alone or beside it.
+#[test]
+fn registers_that_no_frame_saves() {
+    for bit in (0..16).chain(24..28).chain([29]) {
+        for beside in [0, GP, ALL_REGISTERS] {
+            for leaf in [true, false] {
+                let request = Request {
+                    leaf,
+                    general: 1 << bit | beside,
+                    ..Request::default()
+                };
+                check_frame_refusal(Fpu, request, 9);
+                check_frame_refusal(NoFpu, request, 9);
+            }
+        }
     }
+}
+
+/// Each refusal of a request that names `$28`: the answer says no and 0.
+#[test]
+fn a_refused_frame_saves_no_global_pointer() {
+    let caller = Request {
+        general: GP | 1 << 31,
+        ..Request::default()
+    };
+    let leaf = Request {
+        leaf: true,
+        general: GP,
+        ..Request::default()
+    };
+    for device in [Fpu, NoFpu] {
+        for request in [caller, leaf] {
+            assert_eq!(frame(device, request).gp_saved, 1);
+        }
+        for (request, number) in [
+            (
+                Request {
+                    general: GP | 1 << 29,
+                    ..leaf
+                },
+                9,
+            ),
+            (Request { pairs: 64, ..leaf }, 9),
+            (
+                Request {
+                    leaf: false,
+                    ..leaf
+                },
+                10,
+            ),
+            (
+                Request {
+                    locals: 16_385,
+                    ..caller
+                },
+                11,
+            ),
+            (
+                Request {
+                    outgoing: 1_025,
+                    ..caller
+                },
+                12,
+            ),
+            (
+                Request {
+                    outgoing: 1,
+                    ..leaf
+                },
+                12,
+            ),
+        ] {
+            check_frame_refusal(device, request, number);
+        }
+    }
+    check_frame_refusal(NoFpu, Request { pairs: 1, ..leaf }, 14);
 }
 
 #[test]

@@ -131,7 +131,7 @@ pub use refusal::Refusal;
 
 /// The version of the library's interface that this crate is written for, as
 /// `O32_VERSION` in C.
-pub const VERSION: u32 = 4;
+pub const VERSION: u32 = 5;
 
 /// Bytes of the longest list that is accepted.
 pub const LIST_MAX: usize = 1057;
@@ -149,10 +149,10 @@ pub const IMAGE_MAX: usize = 1056;
 pub const BODIES_MAX: usize = 1020;
 
 /// Bytes of the longest prologue.
-pub const PROLOGUE_MAX: usize = 92;
+pub const PROLOGUE_MAX: usize = 96;
 
 /// Bytes of the longest epilogue.
-pub const EPILOGUE_MAX: usize = 96;
+pub const EPILOGUE_MAX: usize = 100;
 
 /// The board that a call or a frame is for.
 #[derive(Clone, Copy, Debug, PartialEq, Eq, Hash)]
@@ -176,8 +176,9 @@ pub struct Request {
     /// Most bytes of arguments that it passes to a routine it calls, at most
     /// 1,024; 0 in a leaf.
     pub outgoing: u32,
-    /// General registers to save: bit k is `$k`, of `$16` to `$23`, `$30` and
-    /// `$31`. A routine that is no leaf must save `$31`.
+    /// General registers to save: bit k is `$k`, of `$16` to `$23`, `$28`, `$30`
+    /// and `$31`. A routine that is no leaf must save `$31`. `$28` is the global
+    /// pointer: name it in a routine that changes it, which isn't checked.
     pub general: u32,
     /// Floating pairs to save: bit k, from 0 to 5, is `$f20`+2k and the next; 0
     /// on a device without a floating-point unit.
@@ -214,6 +215,9 @@ pub struct Layout {
     pub general: u32,
     /// Offset of the locals.
     pub locals: u32,
+    /// Offset of the word that `$28`, the global pointer, is saved in; `None` if
+    /// it isn't saved.
+    pub gp: Option<u32>,
 }
 
 /// A described structure.
@@ -462,10 +466,16 @@ pub fn walk<'a>(
 /// let request = Request { leaf: true, pairs: 0b1, ..Request::default() };
 /// let layout = o32::layout(Device::Fpu, request)?;
 /// assert_eq!((layout.frame, layout.floating, layout.general), (8, 0, 8));
+/// assert_eq!(layout.gp, None);
 /// assert_eq!(
 ///     o32::layout(Device::NoFpu, request),
 ///     Err(Refusal::PairsWithoutUnit)
 /// );
+///
+/// // One that changes the global pointer saves it, here above $16.
+/// let general = 1 << 16 | 1 << 28;
+/// let layout = o32::layout(Device::Fpu, Request { general, ..request })?;
+/// assert_eq!((layout.frame, layout.general, layout.gp), (16, 8, Some(12)));
 /// # Ok::<(), Refusal>(())
 /// ```
 #[inline]
@@ -479,6 +489,7 @@ pub fn layout(device: Device, request: Request) -> Result<Layout, Refusal> {
             floating: layout.floating,
             general: layout.general,
             locals: layout.locals,
+            gp: (layout.gp_saved != 0).then_some(layout.gp),
         }),
         number => Err(Refusal::of(number, layout.place, 0)),
     }

@@ -26,7 +26,7 @@ pub struct Answer {
     pub length: u32,
 }
 
-/// A frame's size and the offsets of its areas from `$sp`.
+/// A frame's size, and the offsets of its areas and of a saved `$28` from `$sp`.
 ///
 /// All zero on a refusal but for `refusal` itself.
 #[must_use = "there is no frame if this is a refusal"]
@@ -47,6 +47,11 @@ pub struct Layout {
     pub general: u32,
     /// Offset of the locals.
     pub locals: u32,
+    /// 1 if `$28`, the global pointer, is saved, otherwise 0.
+    pub gp_saved: u32,
+    /// Offset of the word that `$28` is saved in, which may be 0; 0 if it isn't
+    /// saved.
+    pub gp: u32,
 }
 
 /// What is answered to a description of a structure.

@@ -96,8 +96,8 @@ pub enum Refusal {
         /// The argument whose word that is.
         argument: usize,
     },
-    /// 9: the general mask names a register outside `$16` to `$23`, `$30` and
-    /// `$31`, or the pair mask is above 63.
+    /// 9: the general mask names a register outside `$16` to `$23`, `$28`, `$30`
+    /// and `$31`, or the pair mask is above 63.
     Masks,
     /// 10: the routine is no leaf, and `$31` isn't in the general mask.
     ReturnAddressNotSaved,
@@ -263,7 +263,7 @@ impl Refusal {
                 "the image's word for this kind is no promoted byte or halfword"
             }
             Refusal::Masks => {
-                "the general mask names a register outside $16 to $23, $30 and $31, \
+                "the general mask names a register outside $16 to $23, $28, $30 and $31, \
                  or the pair mask is above 63"
             }
             Refusal::ReturnAddressNotSaved => "the routine is no leaf, and does not save $31",

@@ -8,8 +8,9 @@ use o32::{
 
 const DEVICES: [Device; 2] = [Device::Fpu, Device::NoFpu];
 
-/// `$16` to `$23`, `$30` and `$31`.
-const ALL_REGISTERS: u32 = 0xC0FF_0000;
+/// `$16` to `$23`, `$28`, `$30` and `$31`.
+const ALL_REGISTERS: u32 = 0xD0FF_0000;
+const GLOBAL_POINTER: u32 = 1 << 28;
 const RETURN_ADDRESS: u32 = 1 << 31;
 const WORD: [u8; 5] = [0x05, 0, 0, 0, 9];
 
@@ -518,6 +519,32 @@ fn requests_that_are_refused() {
     }
 }
 
+/// Each register outside those that may be saved, beside all of them.
+#[test]
+fn registers_that_no_frame_saves() {
+    for register in (0..32).filter(|register| ALL_REGISTERS >> register & 1 == 0) {
+        let request = Request {
+            general: ALL_REGISTERS | 1 << register,
+            ..Request::default()
+        };
+        for device in DEVICES {
+            let refusal = refusal_of_request(device, request);
+            assert_eq!(refusal, Refusal::Masks);
+            assert_eq!(
+                refusal.to_string(),
+                "the general mask names a register outside $16 to $23, $28, $30 and $31, \
+                 or the pair mask is above 63 (refusal 9)"
+            );
+            let layout = raw::frame(device, request.into());
+            let expected = raw::Layout {
+                refusal: 9,
+                ..raw::Layout::default()
+            };
+            assert_eq!(layout, expected);
+        }
+    }
+}
+
 #[test]
 fn pairs_without_a_unit() {
     let request = Request {
@@ -634,6 +661,7 @@ fn a_walk_leaves_the_bytes_behind_its_result() {
 
 #[test]
 fn the_longest_code_fits_and_no_shorter_buffer_does() {
+    assert_eq!((PROLOGUE_MAX, EPILOGUE_MAX), (96, 100));
     let request = Request {
         locals: 16_384,
         outgoing: 1_024,
@@ -641,6 +669,9 @@ fn the_longest_code_fits_and_no_shorter_buffer_does() {
         pairs: 63,
         ..Request::default()
     };
+    let layout = o32::layout(Device::Fpu, request).unwrap();
+    assert_eq!((layout.frame, layout.gp), (17_504, Some(1104)));
+
     let mut code = [0; PROLOGUE_MAX];
     let prologue = o32::prologue(Device::Fpu, request, &mut code).unwrap();
     assert_eq!(prologue.len(), PROLOGUE_MAX);
@@ -655,6 +686,55 @@ fn the_longest_code_fits_and_no_shorter_buffer_does() {
         o32::epilogue(Device::Fpu, request, &mut code[1..]),
         Err(Refusal::ShortCode)
     );
+}
+
+/// Not saved, saved at offset 0, and between `$23` and `$30`.
+#[test]
+fn the_global_pointer_in_a_layout() {
+    for (general, frame, gp) in [
+        (0, 0, None),
+        (ALL_REGISTERS & !GLOBAL_POINTER, 40, None),
+        (GLOBAL_POINTER, 8, Some(0)),
+        (1 << 23 | GLOBAL_POINTER | 1 << 30, 16, Some(4)),
+        (ALL_REGISTERS, 48, Some(32)),
+    ] {
+        let request = Request {
+            leaf: true,
+            general,
+            ..Request::default()
+        };
+        for device in DEVICES {
+            let layout = o32::layout(device, request).unwrap();
+            assert_eq!((layout.frame, layout.gp), (frame, gp));
+        }
+    }
+}
+
+#[test]
+fn the_global_pointer_in_the_code() {
+    let request = Request {
+        leaf: true,
+        general: 1 << 23 | GLOBAL_POINTER | 1 << 30,
+        ..Request::default()
+    };
+    let prologue = [0x27BD_FFF0, 0xAFB7_0000, 0xAFBC_0004, 0xAFBE_0008];
+    let epilogue = [
+        0x8FB7_0000,
+        0x8FBC_0004,
+        0x8FBE_0008,
+        0x03E0_0008,
+        0x27BD_0010_u32,
+    ];
+    for device in DEVICES {
+        assert_eq!(
+            o32::prologue(device, request, &mut [0; PROLOGUE_MAX]),
+            Ok(&prologue.map(u32::to_be_bytes).concat()[..])
+        );
+        assert_eq!(
+            o32::epilogue(device, request, &mut [0; EPILOGUE_MAX]),
+            Ok(&epilogue.map(u32::to_be_bytes).concat()[..])
+        );
+    }
 }
 
 /// All parts of a layout, and the rest of a buffer.
@@ -673,6 +753,7 @@ fn a_layout_and_the_bytes_behind_a_result() {
         (layout.floating, layout.general, layout.locals),
         (24, 32, 40)
     );
+    assert_eq!(layout.gp, None);
 
     let mut buffer = [0xA5; 50];
     assert_eq!(o32::write(Device::Fpu, &[], &mut buffer).unwrap(), [0; 48]);
