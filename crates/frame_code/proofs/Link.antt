@@ -22,12 +22,12 @@ use Rattle.frame_code.specs.Code.{codeInto, prologueInto, epilogueInto}
 use Rattle.frame_code.proofs.Answers.{code-cases}
 
 -- the bytes that are written to a buffer, by the length that is answered
-abbrev bytesIn : Outcome → List ℕ → List ℕ
-bytesIn a buf = take (answerOf a .length) (bufferOf a buf)
+abbrev bytesWritten : Outcome → List ℕ → List ℕ
+bytesWritten a buf = take (answerOf a .length) (bufferOf a buf)
 
 -- what was written where the answer is no refusal
 abbrev Wrote : Device → Request → List ℕ → List ℕ → Outcome → Type 0
-Wrote d r ws buf a = (refusalOf d r ≡ 0) × (bytesIn a buf ≡ bytesOfWords ws)
+Wrote d r ws buf a = (refusalOf d r ≡ 0) × (bytesWritten a buf ≡ bytesOfWords ws)
 
 wrote : (d : Device) (r : Request) (ws buf : List ℕ) → answerOf (codeInto d r ws (length buf)) .refusal ≡ 0 → Wrote d r ws buf (codeInto d r ws (length buf))
 wrote d r ws buf =
@@ -38,10 +38,10 @@ wrote d r ws buf =
 -- `layout_of` answers.
 module _ (d : Device) (r : Request) (out out′ : List ℕ) where
   abbrev prologueIn : List ℕ
-  prologueIn = bytesIn (prologueInto d r (length out)) out
+  prologueIn = bytesWritten (prologueInto d r (length out)) out
 
   abbrev epilogueIn : List ℕ
-  epilogueIn = bytesIn (epilogueInto d r (length out′)) out′
+  epilogueIn = bytesWritten (epilogueInto d r (length out′)) out′
 
   module _ (p : answerOf (prologueInto d r (length out)) .refusal ≡ 0) (q : answerOf (epilogueInto d r (length out′)) .refusal ≡ 0) where
     pub written-keeps : Keeps r prologueIn epilogueIn
