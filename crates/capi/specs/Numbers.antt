@@ -19,9 +19,11 @@ use Rattle.descriptions.specs.declared.Structure.{Structure}
 use Rattle.descriptions.specs.Describing.{described}
 use Rattle.frame.specs.declared.Request.{Request}
 use Rattle.frame.specs.declared.Layout.{Layout}
+use Rattle.prologues.specs.declared.Verdict.{Verdict}
 use Rattle.capi.specs.declared.O32Answer.{O32Answer}
 use Rattle.capi.specs.declared.O32Layout.{O32Layout}
 use Rattle.capi.specs.declared.O32Structure.{O32Structure}
+use Rattle.capi.specs.declared.O32Verdict.{O32Verdict}
 
 -- An answer, number by number.
 abbrev pub narrow : Answer → O32Answer
@@ -44,6 +46,10 @@ layoutNumbers y = record {
 -- A structure that was described, number by number.
 abbrev pub structureNumbers : Structure → O32Structure
 structureNumbers x = record { refusal = x .refusal; place = x .place; size = x .size; alignment = x .alignment; kind = x .kind }
+
+-- A verdict on a prologue, number by number.
+abbrev pub verdictNumbers : Verdict → O32Verdict
+verdictNumbers x = record { refusal = x .refusal; place = x .place; verdict = x .verdict }
 
 -- What a caller in C gets from a call: the numbers of its answer, and its buffer afterwards.
 abbrev pub resultForC : O32Answer → List ℕ → Result

@@ -12,7 +12,8 @@ ghost use Rattle.descriptions.specs.Describing.{described};
 ghost use Rattle.descriptions.specs.Descriptions.{placeMost};
 ghost use Rattle.frame.specs.Frame.{layoutOf};
 ghost use Rattle.frame_code.specs.Code.{epilogueInto, prologueInto};
-ghost use Rattle.capi.specs.Numbers.{deviceOf, layoutNumbers, narrow, requestOf, structureNumbers};
+ghost use Rattle.prologues.specs.Checking.{checked};
+ghost use Rattle.capi.specs.Numbers.{deviceOf, layoutNumbers, narrow, requestOf, structureNumbers, verdictNumbers};
 use answers::Answer;
 use descriptions::Structure;
 use device::Device;
@@ -49,6 +50,14 @@ pub struct O32Structure {
     pub size: u32,
     pub alignment: u32,
     pub kind: u32,
+}
+
+// What is answered for code that is sent as a prologue: a refusal, its place and 0, or 0, 0 and the verdict.
+#[repr(C)]
+pub struct O32Verdict {
+    pub refusal: u32,
+    pub place: u32,
+    pub verdict: u32,
 }
 
 // An answer in 32-bit numbers. No answer has a larger place or length than 1,057, or a larger argument than 33.
@@ -113,9 +122,9 @@ fn as_request(leaf: u32, locals: u32, outgoing: u32, general: u32, pairs: u32) -
 // or a function here.
 #[no_mangle]
 pub extern "C" fn o32_version() -> u32
-    ensures { λ r. ⌜ r ≡ 5 ⌝ }
+    ensures { λ r. ⌜ r ≡ 6 ⌝ }
 {
-    5
+    6
 }
 
 // The call image of a list for a device.
@@ -261,4 +270,26 @@ pub extern "C" fn o32_epilogue(
     let request = as_request(leaf, locals, outgoing, general, pairs);
     let answer = frame_code::epilogue(as_device(device), request, code);
     narrowed(answer)
+}
+
+// Whether code is a prologue for a request on a device, and what is wrong where it is not.
+#[no_mangle]
+pub extern "C" fn o32_check_prologue(
+    device: u32,
+    leaf: u32,
+    locals: u32,
+    outgoing: u32,
+    general: u32,
+    pairs: u32,
+    code: &[u8],
+) -> O32Verdict
+    ensures { λ r. ⌜ r ≡ verdictNumbers (checked (deviceOf device) (requestOf leaf locals outgoing general pairs) (now (code .entry))) ⌝ }
+{
+    let request = as_request(leaf, locals, outgoing, general, pairs);
+    let verdict = prologues_code::check_prologue(as_device(device), request, code);
+    O32Verdict {
+        refusal: verdict.refusal,
+        place: verdict.place,
+        verdict: verdict.verdict,
+    }
 }

@@ -18,6 +18,10 @@ placeOf byte (b ∷ l) = cond (eqb b byte) 0 (suc (placeOf byte l))
 abbrev pub deviceOf : List ℕ → Device
 deviceOf line = cond (eqb (getD line 0 0) 110) NoFpu Fpu
 
+-- The letter that decides on a case: the first of its line, or the one after an n.
+abbrev pub letterOf : List ℕ → ℕ
+letterOf line = cond (eqb (getD line 0 0) 110 && ltb 1 (length line)) (getD line 1 0) (getD line 0 0)
+
 -- The value of a hex digit in upper case; 16 where it is none.
 abbrev pub digitOf : ℕ → ℕ
 digitOf c = cond (leb 48 c && leb c 57) (c - 48) (cond (leb 65 c && leb c 70) (c - 55) 16)

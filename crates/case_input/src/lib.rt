@@ -4,7 +4,7 @@ ghost use mathlib.Core.Path.{_≡_};
 ghost use Prim.Native.Nat.{_+_, _<_, _≤_};
 ghost use lib.ListN.{drop, length};
 ghost use lib.Seq.{paste};
-ghost use Rattle.case_input.specs.Lines.{deviceOf, digitOf, field, fieldLength, numberAt, numberOf, placeOf, requireDigit, roomOf, series, seriesAt, seriesBySign, seriesOf};
+ghost use Rattle.case_input.specs.Lines.{deviceOf, digitOf, field, fieldLength, letterOf, numberAt, numberOf, placeOf, requireDigit, roomOf, series, seriesAt, seriesBySign, seriesOf};
 ghost use Rattle.text.specs.Text.{stored};
 use device::Device;
 
@@ -212,4 +212,16 @@ pub fn device_of(line: &[u8]) -> Device
     } else {
         Device::Fpu
     }
+}
+
+// The letter that decides on a case: the first of its line, or the one after an n.
+pub fn letter(line: &[u8]) -> u8
+    requires { ⌜ 1 ≤ length (now line) ⌝ }
+    ensures { λ r. ⌜ r ≡ letterOf (now (line .entry)) ⌝ }
+{
+    let first = line[0];
+    if first != b'n' {
+        return first;
+    }
+    if line.len() < 2 { first } else { line[1] }
 }

@@ -7,9 +7,13 @@ use Prim.Native.Nat.{ℕ, zero, suc, _+_, _*_, _<_}
 use native.Mathlib.Omega.{arith}
 use native.Mathlib.Decide.{ℕ-discrete}
 use native.Mathlib.Nat.{mul-zero, mul-one, mul-add}
+use lib.ListN.{length, length-append}
 use borrow.Author.Tests.{eqb-true}
 use Rattle.frame.specs.Masks.{bit, names, countBelow}
-use Rattle.frame.specs.Words.{Save, collect}
+use Rattle.frame.specs.Frame.{floatingAt, generalAt}
+use Rattle.frame.specs.Words.{Save, collect, pairAt, registerAt, pairsOf, registersOf, savesOf}
+use Rattle.frame.specs.declared.Request.{Request}
+use Rattle.frame.proofs.Masks.{bit-unnamed}
 use Rattle.frame.proofs.Saves.{All, all-append, all-split, Span, span-append}
 
 module _ (P : Save → Type 0) (f : ℕ → List Save) (m : ℕ) where
@@ -31,6 +35,27 @@ module _ (P : Save → Type 0) (f : ℕ → List Save) (m : ℕ) where
       by (no n) b earlier = earlier (omega arith)
       by (yes q) b earlier =
           subst (λ (i : ℕ). All P (f i)) (sym q) (subst (λ (x : Bool). All P (cond x (f k) [])) (ap (names m) (sym q) ∙ e) b)
+
+-- s for each register below k that is named
+pub length-collect : (f : ℕ → List Save) (s m k : ℕ) → ((j : ℕ) → length (f j) ≡ s) → length (collect f m k) ≡ s * countBelow m k
+unfolding collect countBelow
+length-collect f s m zero h = sym (mul-zero s)
+length-collect f s m (suc k) h = length-append (collect f m k) _ ∙ by (names m k) refl (length-collect f s m k h)
+  where
+    by : (b : Bool) → names m k ≡ b → length (collect f m k) ≡ s * countBelow m k → length (collect f m k) + length (cond b (f k) []) ≡ s * (countBelow m k + bit m k)
+    by true e q = omega (arith, q, h k, mul-add s (countBelow m k) (bit m k), ap (λ (x : ℕ). s * x) (eqb-true (bit m k) 1 e), mul-one s)
+    by false e q = omega (arith, q, mul-add s (countBelow m k) (bit m k), ap (λ (x : ℕ). s * x) (bit-unnamed m k e), mul-zero s)
+
+-- two for each pair, one for each general register
+pub length-saves : (r : Request) → length (savesOf r) ≡ 2 * countBelow (r .pairs) 6 + countBelow (r .general) 32
+unfolding savesOf
+length-saves r =
+    omega (
+      arith,
+      length-append (pairsOf r) (registersOf r),
+      length-collect (pairAt (floatingAt r) (r .pairs)) 2 (r .pairs) 6 (λ j. refl),
+      length-collect (registerAt (generalAt r) (r .general)) 1 (r .general) 32 (λ j. refl),
+    )
 
 -- where none is named, none is collected
 pub collect-none : (f : ℕ → List Save) (m k : ℕ) → countBelow m k ≡ 0 → collect f m k ≡ []

@@ -12,10 +12,10 @@ use borrow.Author.Tests.{eqb-true, eqb-false}
 use Rattle.machine.specs.Machine.{State, upd, nextAddress, laterAddress, sum, proceed, step, Holds, Runs}
 use Rattle.machine.proofs.Steps.{upd-same, upd-other, sum-down, step-addiu}
 use Rattle.machine.proofs.Runs.{runs-end, runs-step}
-use Rattle.frame.specs.Words.{Save, storeWord, prologueFor}
+use Rattle.frame.specs.Words.{Save, storeWord, lowering, prologueFor}
 use Rattle.frame.specs.Keeping.{Entry}
 use Rattle.frame.proofs.Saves.{All, Span, span-le, all-both, contents, contents-same, Sound}
-use Rattle.frame.proofs.Each.{follows-next, proceed-line, Area, doEach, runs-each}
+use Rattle.frame.proofs.Each.{follows-next, proceed-line, Area, runs-each}
 use Rattle.frame.proofs.Stores.{store, store-goes, Stored, stored}
 
 -- Only `$sp`, the program counter and the save words differ, and these hold the registers; there were n words.
@@ -38,33 +38,33 @@ pub add-sp : (code : ℕ → ℕ) (s : State) (i : ℕ) → s .pc % 4 ≡ 0 → 
 add-sp code s i w h c = step-addiu code (record { whole = w; base = omega arith; register = omega arith; immediate = h }) (omega arith) (omega arith)
 
 -- a frame of no bytes has no saves
-no-saves : (P : Save → Type 0) (lo : ℕ) (vs : List Save) (hi : ℕ) → hi ≡ 0 → Span lo vs hi → All P vs
+pub no-saves : (P : Save → Type 0) (lo : ℕ) (vs : List Save) (hi : ℕ) → hi ≡ 0 → Span lo vs hi → All P vs
 no-saves P lo [] hi z d = tt
 no-saves P lo (v ∷ vs) hi z d = absurd (omega (arith, span-le (v .offset + 4) vs hi (d .1)))
 
 -- the state after `addiu $sp,$sp,-F`
-abbrev lower : ℕ → State → State
+abbrev pub lower : ℕ → State → State
 lower F s = proceed s (upd (s .reg) 29 (s .reg 29 - F)) (s .freg) (s .mem)
 
--- the stores after it
-entered : (F : ℕ) (vs : List Save) (n : ℕ) (s : State) → Sound F vs → (let t = doEach (store (s .reg 29 - F)) vs (lower F s) in t .pc ≡ laterAddress n (s .pc) → t .target ≡ none → Entered F vs n s t)
-entered F vs n s d at slot =
+-- the state after all saves were stored after it, in whatever order
+pub entered : {F : ℕ} {vs : List Save} {n : ℕ} {s t : State} → Sound F vs → Stored (s .reg 29 - F) vs (lower F s) t
+    → t .pc ≡ laterAddress n (s .pc) → t .target ≡ none → Entered F vs n s t
+entered {F} {vs} {n} {s} {t} d o at slot =
     let p : ℕ = s .reg 29 - F in
-    let t : Stored p vs (lower F s) (doEach (store p) vs (lower F s)) = stored p 0 vs F (lower F s) (d .span) in
-    let sp : doEach (store p) vs (lower F s) .reg 29 ≡ p = ap (λ (g : ℕ → ℕ). g 29) (t .reg) ∙ upd-same (s .reg) 29 p in
+    let sp : t .reg 29 ≡ p = ap (λ (g : ℕ → ℕ). g 29) (o .reg) ∙ upd-same (s .reg) 29 p in
     let other : (k : ℕ) → (k ≡ 29 → ⊥) → upd (s .reg) 29 p k ≡ s .reg k = upd-other (s .reg) 29 p in
     record {
       at = at;
       slot = slot;
       sp = sp;
-      general = λ k h. ap (λ (g : ℕ → ℕ). g k) (t .reg) ∙ other k h;
-      floating = λ k. ap (λ (f : ℕ → ℕ). f k) (t .freg);
-      elsewhere = rw sp (t .elsewhere);
-      saved = rw sp (all-both vs (λ v f h. h ∙ contents-same s (lower F s) v other (λ k. refl) f) (d .fit) (t .saved));
+      general = λ k h. ap (λ (g : ℕ → ℕ). g k) (o .reg) ∙ other k h;
+      floating = λ k. ap (λ (f : ℕ → ℕ). f k) (o .freg);
+      elsewhere = rw sp (o .elsewhere);
+      saved = rw sp (all-both vs (λ v f h. h ∙ contents-same s (lower F s) v other (λ k. refl) f) (d .fit) (o .saved));
     }
 
 module _ (code : ℕ → ℕ) (F : ℕ) (vs : List Save) (s : State) (d : Sound F vs) (e : Entry F s) (whole : s .pc % 4 ≡ 0) (slot : s .target ≡ none) where
-  step-lowers : (F ≡ 0 → ⊥) → code (s .pc) ≡ 0x27BD0000 + (65536 - F) → step code s ≡ some (lower F s)
+  pub step-lowers : (F ≡ 0 → ⊥) → code (s .pc) ≡ lowering F → step code s ≡ some (lower F s)
   step-lowers z c =
       add-sp code s (65536 - F) whole (omega arith) c
       ∙ ap (λ (x : ℕ). some (proceed s (upd (s .reg) 29 x) (s .freg) (s .mem)))
@@ -77,8 +77,8 @@ module _ (code : ℕ → ℕ) (F : ℕ) (vs : List Save) (s : State) (d : Sound 
   unfolding prologueFor
   prologue h = by (eqb F 0) refl h
     where
-      by : (b : Bool) → eqb F 0 ≡ b → Holds code (s .pc) (cond b [] ((0x27BD0000 + (65536 - F)) ∷ map storeWord vs))
-          → Done (cond b [] ((0x27BD0000 + (65536 - F)) ∷ map storeWord vs))
+      by : (b : Bool) → eqb F 0 ≡ b → Holds code (s .pc) (cond b [] (lowering F ∷ map storeWord vs))
+          → Done (cond b [] (lowering F ∷ map storeWord vs))
       by true z h =
           let z : F ≡ 0 = eqb-true F 0 z in
           runs-end (record {
@@ -99,4 +99,4 @@ module _ (code : ℕ → ℕ) (F : ℕ) (vs : List Save) (s : State) (d : Sound 
           runs-step (step-lowers (eqb-false F 0 z) (h .0))
           (rw append-nil at
           (runs-each code p F storeWord (store p) (store-goes code (area d e refl)) {Then = Entered F vs n s} 0 vs [] (lower F s) (d .fit) (d .span)
-          (proceed-line s whole slot (upd-same (s .reg) 29 p)) q (λ l x t. runs-end (entered F vs n s d (back _ x) (l .slot)))))
+          (proceed-line s whole slot (upd-same (s .reg) 29 p)) q (λ l x t. runs-end (entered d (stored p 0 vs F (lower F s) (d .span)) (back _ x) (l .slot)))))

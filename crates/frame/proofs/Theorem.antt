@@ -31,10 +31,10 @@ module _ (r : Request) (P : Save → Type 0) (a : All P (savesOf r)) where
   unfolding savesOf
   saves-split = all-split P (pairsOf r) (registersOf r) a
 
-  holds-of-pair : (k : ℕ) → k < 6 → names (r .pairs) k ≡ true → All P (pairAt (floatingAt r) (r .pairs) k)
+  pub holds-of-pair : (k : ℕ) → k < 6 → names (r .pairs) k ≡ true → All P (pairAt (floatingAt r) (r .pairs) k)
   holds-of-pair k = collect-at P (pairAt (floatingAt r) (r .pairs)) (r .pairs) 6 k (saves-split .0)
 
-  holds-of-register : (k : ℕ) → k < 32 → names (r .general) k ≡ true → All P (registerAt (generalAt r) (r .general) k)
+  pub holds-of-register : (k : ℕ) → k < 32 → names (r .general) k ≡ true → All P (registerAt (generalAt r) (r .general) k)
   holds-of-register k = collect-at P (registerAt (generalAt r) (r .general)) (r .general) 32 k (saves-split .1)
 
 -- what holds of every save word holds of all saves of a request
@@ -84,20 +84,48 @@ runs-in-bytes code ws s e c runs h =
     let r = runs (subst (Holds code (s .pc)) e (c .words)) in
     record { last = r .last; ran = ap (λ (l : List ℕ). run (length l) code s) e ∙ r .ran; holds = h (r .last) (r .holds) }
 
-pub frames : (x : Device) (r : Request) → refusalOf x r ≡ 0 → Keeps r (bytesOfWords (prologueWords r)) (bytesOfWords (epilogueWords r))
-unfolding prologueWords epilogueWords
-frames x r ok code s e c =
-    let F : ℕ = frameOf r in
-    let vs : List Save = savesOf r in
-    let d : Sound F vs = sound (accepted x r ok) in
-    runs-in-bytes code (prologueFor F vs) s (words-in (prologueFor F vs) (prologue-small F vs d)) c (prologue code F vs s d e (c .whole) (c .slot))
-    (λ t p. (
-      prologued r _ s t (subst (λ (n : ℕ). Entered F vs n s t) (sym (ap length (words-in (prologueFor F vs) (prologue-small F vs d)))) p),
-      λ u b k. runs-in-bytes code (epilogueFor F vs) u (words-in (epilogueFor F vs) (epilogue-small F vs d)) k
-          (epilogue code (t .reg 29) F vs s u d e (p .sp) (record { whole = k .whole; slot = k .slot; sp = b .sp })
-          (all-both vs (λ v x y. x ∙ y) (holds-of-saves r (λ (o : ℕ). u .mem (t .reg 29 + o) ≡ t .mem (t .reg 29 + o)) (b .saves)) (p .saved)) (return r _ s t u p b))
-          (λ w l. returned r s w e l),
-    ))
+-- Bytes of code enter the frame of a request: they change only `$sp`, the program counter and the save words, and these hold the registers.
+abbrev pub Enters : Request → List ℕ → Type 0
+Enters r bytes =
+    (code : ℕ → ℕ) (s : State) → Entry (frameOf r) s → Ready code bytes s
+    → Runs code (wordsIn bytes) s (λ t. Entered (frameOf r) (savesOf r) (length (wordsIn bytes)) s t)
+
+module _ (x : Device) (r : Request) (ok : refusalOf x r ≡ 0) where
+  saves-sound : Sound (frameOf r) (savesOf r)
+  saves-sound = sound (accepted x r ok)
+
+  pub prologue-enters : Enters r (bytesOfWords (prologueWords r))
+  unfolding prologueWords
+  prologue-enters code s e c =
+      let F : ℕ = frameOf r in
+      let vs : List Save = savesOf r in
+      let own : wordsIn (bytesOfWords (prologueFor F vs)) ≡ prologueFor F vs = words-in (prologueFor F vs) (prologue-small F vs saves-sound) in
+      runs-in-bytes code (prologueFor F vs) s own c (prologue code F vs s saves-sound e (c .whole) (c .slot))
+      (λ t p. subst (λ (n : ℕ). Entered F vs n s t) (sym (ap length own)) p)
+
+  -- whatever enters the frame keeps what is demanded, with the request's epilogue
+  pub enters-keeps : (bytes : List ℕ) → Enters r bytes → Keeps r bytes (bytesOfWords (epilogueWords r))
+  unfolding epilogueWords
+  enters-keeps bytes enters code s e c =
+      let F : ℕ = frameOf r in
+      let vs : List Save = savesOf r in
+      let run = enters code s e c in
+      let t : State = run .last in
+      let p = run .holds in
+      record {
+        last = t;
+        ran = run .ran;
+        holds = (
+          prologued r _ s t p,
+          λ u b k. runs-in-bytes code (epilogueFor F vs) u (words-in (epilogueFor F vs) (epilogue-small F vs saves-sound)) k
+              (epilogue code (t .reg 29) F vs s u saves-sound e (p .sp) (record { whole = k .whole; slot = k .slot; sp = b .sp })
+              (all-both vs (λ v x y. x ∙ y) (holds-of-saves r (λ (o : ℕ). u .mem (t .reg 29 + o) ≡ t .mem (t .reg 29 + o)) (b .saves)) (p .saved)) (return r _ s t u p b))
+              (λ w l. returned r s w e l),
+        );
+      }
+
+  pub frames : Keeps r (bytesOfWords (prologueWords r)) (bytesOfWords (epilogueWords r))
+  frames = enters-keeps (bytesOfWords (prologueWords r)) prologue-enters
 
 zero-names-none : (k : ℕ) → names 0 k ≡ false
 zero-names-none k = rw (zero-div (2 ^ k))

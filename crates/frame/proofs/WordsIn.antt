@@ -3,10 +3,11 @@
 use mathlib.Core.Path.{_≡_, refl, ap₂}
 use mathlib.Core.Bool.{Bool, true, false, cond}
 use mathlib.Core.List.{List, [], _∷_, _++_, map, append-nil}
-use Prim.Native.Nat.{ℕ, _+_, _-_, _^_, _<_}
+use Prim.Native.Nat.{ℕ, _+_, _-_, _*_, _^_, _<_}
 use native.Mathlib.Omega.{arith}
 use lib.Dec.{eqb}
-use Rattle.frame.specs.Words.{Save, wordOf, storeWord, prologueFor, epilogueFor}
+use lib.ListN.{length}
+use Rattle.frame.specs.Words.{Save, wordOf, storeWord, lowering, prologueFor, epilogueFor}
 use Rattle.words.specs.Words.{bytesOfWords}
 use Rattle.frame.specs.Keeping.{wordsIn}
 use Rattle.frame.proofs.Saves.{All, Span, span-le, Fit, Sound}
@@ -18,6 +19,10 @@ Small ws = All (λ (w : ℕ). w < 2 ^ 32) ws
 pub words-in : (ws : List ℕ) → Small ws → wordsIn (bytesOfWords ws) ≡ ws
 words-in [] h = refl
 words-in (w ∷ ws) h = ap₂ (λ (x : ℕ) (xs : List ℕ). x ∷ xs) (omega (arith, h .0)) (words-in ws (h .1))
+
+pub length-bytes-of-words : (ws : List ℕ) → length (bytesOfWords ws) ≡ 4 * length ws
+length-bytes-of-words [] = refl
+length-bytes-of-words (w ∷ ws) = omega (arith, length-bytes-of-words ws)
 
 -- an instruction on a save word; its opcode and `$sp` are x or y
 small-word : (b : Bool) (x y : ℕ) (v : Save) → x < 2 ^ 32 - 2 ^ 21 → y < 2 ^ 32 - 2 ^ 21 → Fit v → v .offset < 2 ^ 15
@@ -38,7 +43,7 @@ module _ (F : ℕ) (vs : List Save) (d : Sound F vs) where
   unfolding prologueFor
   prologue-small = by (eqb F 0)
     where
-      by : (b : Bool) → Small (cond b [] ((0x27BD0000 + (65536 - F)) ∷ map storeWord vs))
+      by : (b : Bool) → Small (cond b [] (lowering F ∷ map storeWord vs))
       by true = tt
       by false = (omega arith, rw append-nil at (small-each 0xE7A00000 0xAFA00000 F 0 vs [] (omega arith) (omega arith) (d .small) (d .fit) (d .span) tt))
 

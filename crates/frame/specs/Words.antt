@@ -59,10 +59,13 @@ storeWord v = wordOf (cond (v .float) 0xE7A00000 0xAFA00000) v
 abbrev pub loadWord : Save → ℕ
 loadWord v = wordOf (cond (v .float) 0xC7A00000 0x8FA00000) v
 
--- "If F is 0 the prologue has no words. Else `addiu $sp,$sp,-F` (27BD and the low 16 bits of -F), then" the stores. (F is at
--- most `frameMost`, so the low 16 bits of -F are 65,536 - F.)
+-- "`addiu $sp,$sp,-F` (27BD and the low 16 bits of -F)". (F is at most `frameMost`, so the low 16 bits of -F are 65,536 - F.)
+abbrev pub lowering : ℕ → ℕ
+lowering F = 0x27BD0000 + (65536 - F)
+
+-- "If F is 0 the prologue has no words. Else" that one, "then" the stores.
 unfoldable pub prologueFor : ℕ → List Save → List ℕ
-prologueFor F saves = cond (eqb F 0) [] ((0x27BD0000 + (65536 - F)) ∷ map storeWord saves)
+prologueFor F saves = cond (eqb F 0) [] (lowering F ∷ map storeWord saves)
 
 -- "then `addiu $sp,$sp,F` in the delay slot; with F = 0, 00000000 there."
 abbrev pub slotFor : ℕ → ℕ

@@ -28,7 +28,7 @@ pub record Laid (d : Device) (r : Request) (y : Layout) : Type 0 where
   pub frame-le : y .frame ≤ frameMost
 
 module _ (d : Device) (r : Request) {y : Layout} (l : y ≡ layoutOf d r) where
-  refusal-is : y .refusal ≡ refusalOf d r
+  pub refusal-is : y .refusal ≡ refusalOf d r
   refusal-is = ap (λ (x : Layout). x .refusal) l ∙ layout-cases d r (λ (x : Layout). x .refusal ≡ refusalOf d r) sym (λ n. refl)
 
   pub laid : y .refusal ≡ 0 → Laid d r y

@@ -1,7 +1,7 @@
 -- The bytes of a prologue and an epilogue, as the code writes them: the saves' instructions, with a word before or two after.
 -- Assumes nothing.
 use mathlib.Core.Path.{_≡_, refl, ap, ap₂, _∙_}
-use mathlib.Core.List.{List, [], _∷_, map, _++_, append-nil, map-append}
+use mathlib.Core.List.{List, [], map, _++_, append-nil, map-append}
 use mathlib.Core.Bool.{Bool, true, false, cond}
 use Prim.Native.Nat.{ℕ, zero, suc, _+_, _-_, _*_}
 use native.Mathlib.Omega.{arith}
@@ -12,12 +12,9 @@ use Rattle.words.specs.Words.{bytesOf, bytesOfWords}
 use Rattle.frame.specs.declared.Request.{Request}
 use Rattle.frame.specs.Masks.{names, countBelow}
 use Rattle.frame.specs.Frame.{floatingAt, generalAt, frameOf}
-use Rattle.frame.specs.Words.{Save, collect, pairAt, registerAt, pairsOf, registersOf, savesOf, wordOf, storeWord, loadWord, prologueFor, returnFor, epilogueFor, prologueWords, epilogueWords}
+use Rattle.frame.specs.Words.{Save, collect, pairAt, registerAt, pairsOf, registersOf, savesOf, wordOf, storeWord, loadWord, lowering, prologueFor, returnFor, epilogueFor, prologueWords, epilogueWords}
+use Rattle.frame.proofs.WordsIn.{length-bytes-of-words}
 use Rattle.frame_words.proofs.Emit.{bytesOfSaves, sets-parts, bytes-append, length-bytes-of-saves}
-
-length-bytes : (ws : List ℕ) → length (bytesOfWords ws) ≡ 4 * length ws
-length-bytes [] = refl
-length-bytes (w ∷ ws) = omega (arith, length-bytes ws)
 
 -- the instructions on saves, by the opcodes for floating and for general registers
 abbrev putWord : ℕ → ℕ → Save → ℕ
@@ -48,24 +45,12 @@ module _ (x y : ℕ) (r : Request) where
   length-pairs = length-bytes-of-saves x 8 (pairAt (floatingAt r) (r .pairs)) (λ j. refl) (r .pairs) 6
 
   length-put : length (bytesOfWords (map (putWord x y) (savesOf r))) ≡ 4 * length (savesOf r)
-  length-put = rw length-bytes (ap (λ (n : ℕ). 4 * n) (length-map (savesOf r) (putWord x y)))
+  length-put = rw length-bytes-of-words (ap (λ (n : ℕ). 4 * n) (length-map (savesOf r) (putWord x y)))
 
   -- as the code puts them
   pub saves-put : (l a b : List ℕ) (at n : ℕ) → a ≡ sets l at (bytesOfSaves x (pairsOf r)) → n ≡ at + 8 * countBelow (r .pairs) 6
       → b ≡ sets a n (bytesOfSaves y (registersOf r)) → b ≡ sets l at (bytesOfWords (map (putWord x y) (savesOf r)))
   saves-put l a b at n p q s = sets-parts l (bytesOfSaves x (pairsOf r)) (bytesOfSaves y (registersOf r)) at n saves-bytes p (omega (arith, length-pairs)) s
-
--- their length by the counts that the code takes
-pub length-saves : (r : Request) → 4 * length (savesOf r) ≡ 8 * countBelow (r .pairs) 6 + 4 * countBelow (r .general) 32
-length-saves r =
-    omega (
-      arith,
-      length-put 0 0 r,
-      ap length (saves-bytes 0 0 r),
-      length-append (bytesOfSaves 0 (pairsOf r)) (bytesOfSaves 0 (registersOf r)),
-      length-pairs 0 0 r,
-      length-bytes-of-saves 0 4 (registerAt (generalAt r) (r .general)) (λ j. refl) (r .general) 32,
-    )
 
 pub prologue-none : (r : Request) → frameOf r ≡ 0 → bytesOfWords (prologueWords r) ≡ []
 unfolding prologueWords prologueFor
@@ -73,16 +58,16 @@ prologue-none r e = simp (eq-eqb (frameOf r) 0 e)
 
 module _ (r : Request) (h : frameOf r ≡ 0 → ⊥) where
   prologue-bytes : bytesOfWords (prologueWords r)
-      ≡ bytesOf 4 (0x27BD0000 + (65536 - frameOf r)) ++ bytesOfWords (map storeWord (savesOf r))
+      ≡ bytesOf 4 (lowering (frameOf r)) ++ bytesOfWords (map storeWord (savesOf r))
   unfolding prologueWords prologueFor
   prologue-bytes = simp (ne-eqb (frameOf r) 0 h)
 
   pub prologue-length : length (bytesOfWords (prologueWords r)) ≡ 4 + 4 * length (savesOf r)
   prologue-length = ap length prologue-bytes ∙ omega (arith, length-put 0xE7A00000 0xAFA00000 r)
 
-  pub prologue-put : (l a b : List ℕ) → a ≡ sets l 0 (bytesOf 4 (0x27BD0000 + (65536 - frameOf r)))
+  pub prologue-put : (l a b : List ℕ) → a ≡ sets l 0 (bytesOf 4 (lowering (frameOf r)))
       → b ≡ sets a 4 (bytesOfWords (map storeWord (savesOf r))) → b ≡ sets l 0 (bytesOfWords (prologueWords r))
-  prologue-put l a b p q = sets-parts l (bytesOf 4 (0x27BD0000 + (65536 - frameOf r))) (bytesOfWords (map storeWord (savesOf r))) 0 4 prologue-bytes p refl q
+  prologue-put l a b p q = sets-parts l (bytesOf 4 (lowering (frameOf r))) (bytesOfWords (map storeWord (savesOf r))) 0 4 prologue-bytes p refl q
 
 module _ (r : Request) where
   epilogue-bytes : bytesOfWords (epilogueWords r) ≡ bytesOfWords (map loadWord (savesOf r)) ++ bytesOfWords (returnFor (frameOf r))

@@ -22,14 +22,14 @@ use Rattle.frame_code.specs.Code.{codeInto, prologueInto, epilogueInto}
 use Rattle.frame_code.proofs.Answers.{code-cases}
 
 -- the bytes that are written to a buffer, by the length that is answered
-abbrev bytesWritten : Outcome → List ℕ → List ℕ
+abbrev pub bytesWritten : Outcome → List ℕ → List ℕ
 bytesWritten a buf = take (answerOf a .length) (bufferOf a buf)
 
 -- what was written where the answer is no refusal
-abbrev Wrote : Device → Request → List ℕ → List ℕ → Outcome → Type 0
+abbrev pub Wrote : Device → Request → List ℕ → List ℕ → Outcome → Type 0
 Wrote d r ws buf a = (refusalOf d r ≡ 0) × (bytesWritten a buf ≡ bytesOfWords ws)
 
-wrote : (d : Device) (r : Request) (ws buf : List ℕ) → answerOf (codeInto d r ws (length buf)) .refusal ≡ 0 → Wrote d r ws buf (codeInto d r ws (length buf))
+pub wrote : (d : Device) (r : Request) (ws buf : List ℕ) → answerOf (codeInto d r ws (length buf)) .refusal ≡ 0 → Wrote d r ws buf (codeInto d r ws (length buf))
 wrote d r ws buf =
     code-cases d r ws (length buf) (λ (a : Outcome). answerOf a .refusal ≡ 0 → Wrote d r ws buf a)
     (λ e h. (e, take-at (bytesOfWords ws) _ _ refl)) (λ h. absurd (omega arith)) (λ n h. absurd (n h))

@@ -17,7 +17,8 @@ use Rattle.frame.proofs.Accepted.{accepted}
 use Rattle.frame_code.specs.Code.{codeInto}
 use Rattle.frame_code.specs.Longest.{savesMost, Longest}
 use Rattle.frame_code.proofs.Answers.{code-cases}
-use Rattle.frame_code.proofs.Bytes.{length-saves, prologue-none, prologue-length, epilogue-length}
+use Rattle.frame.proofs.Collect.{length-saves}
+use Rattle.frame_code.proofs.Bytes.{prologue-none, prologue-length, epilogue-length}
 
 -- an answer is no longer than the words of an accepted request
 code-length-le : (d : Device) (r : Request) (ws : List ℕ) (room n : ℕ) → (refusalOf d r ≡ 0 → length (bytesOfWords ws) ≤ n)

@@ -2,7 +2,7 @@
 ghost use mathlib.Core.Bool.{cond, false};
 ghost use mathlib.Core.List.{map};
 ghost use mathlib.Core.Path.{_≡_};
-ghost use Prim.Native.Nat.{_*_, _+_, _-_, _<_, _≤_};
+ghost use Prim.Native.Nat.{_*_, _+_, _≤_};
 ghost use lib.ListN.{length};
 ghost use lib.Seq.{sets};
 ghost use Rattle.words.specs.Words.{up, bytesOfWords};
@@ -177,15 +177,6 @@ fn put_saves(
     frame_words::put_registers(out, next, gop, request.general, layout.general)
 }
 
-// The low 16 bits of -f, through a signed halfword.
-fn negate(f: u32) -> u32
-    requires { ⌜ (0 < f) × (f ≤ frameMost) ⌝ }
-    ensures { λ r. ⌜ r ≡ 65536 - f ⌝ }
-{
-    let n = -(f as i16);
-    ((n as i32) + 65536) as u32
-}
-
 // The prologue of a request on a device. Refusals 9, 14, 10, 11 and 12, then 13; no byte is stored before all are decided.
 pub fn prologue(device: Device, request: Request, out: &mut [u8]) -> Answer
     ensures answer { λ r. ⌜ r ≡ answerOf (prologueInto device request (length (now (out .entry)))) ⌝ }
@@ -204,7 +195,7 @@ pub fn prologue(device: Device, request: Request, out: &mut [u8]) -> Answer
     if out.len() < length { // all of it, before the first store
         return answers::reply(13, 0, 0, 0);
     }
-    words::write_word(out, 0, 0x27BD_0000 + negate(frame));
+    words::write_word(out, 0, frame_words::lower_sp(frame));
     put_saves(out, 4, 0xE7A0_0000, 0xAFA0_0000, request, layout);
     answers::reply(0, 0, 0, length)
 }

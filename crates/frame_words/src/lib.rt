@@ -2,12 +2,13 @@
 // epilogue. `op` is the instruction's word with register 0 and offset 0; `swc1`'s is the largest.
 ghost use mathlib.Core.List.{[], _∷_, map};
 ghost use mathlib.Core.Path.{_≡_};
-ghost use Prim.Native.Nat.{_%_, _*_, _+_, _<_, _≤_};
+ghost use Prim.Native.Nat.{_%_, _*_, _+_, _-_, _<_, _≤_};
 ghost use lib.ListN.{length};
 ghost use lib.Seq.{sets};
 ghost use Rattle.frame.specs.Masks.{countBelow, names};
+ghost use Rattle.frame.specs.Frame.{frameMost};
 ghost use Rattle.words.specs.Words.{bytesOfWords};
-ghost use Rattle.frame.specs.Words.{collect, pairAt, registerAt, wordOf};
+ghost use Rattle.frame.specs.Words.{collect, lowering, pairAt, registerAt, wordOf};
 ghost use Rattle.frame_words.specs.Limits.{offsetMost, opMost, startMost};
 
 // Whether a mask names register k.
@@ -27,11 +28,28 @@ pub fn count_below(mask: u32, k: u32) -> u32
 }
 
 // The instruction on a register's save word.
-fn word(op: u32, number: u32, offset: u32) -> u32
+pub fn word(op: u32, number: u32, offset: u32) -> u32
     requires { ⌜ (op ≤ opMost) × (number < 32) × (offset ≤ offsetMost) ⌝ }
     ensures { λ r. ⌜ r ≡ op + 65536 * number + offset ⌝ }
 {
     op + 65536 * number + offset
+}
+
+// The low 16 bits of -f, through a signed halfword.
+fn negate(f: u32) -> u32
+    requires { ⌜ (0 < f) × (f ≤ frameMost) ⌝ }
+    ensures { λ r. ⌜ r ≡ 65536 - f ⌝ }
+{
+    let n = -(f as i16);
+    ((n as i32) + 65536) as u32
+}
+
+// `addiu $sp,$sp,-f`.
+pub fn lower_sp(f: u32) -> u32
+    requires { ⌜ (0 < f) × (f ≤ frameMost) ⌝ }
+    ensures { λ r. ⌜ r ≡ lowering f ⌝ }
+{
+    0x27BD_0000 + negate(f)
 }
 
 // Two words at a place.

@@ -113,17 +113,6 @@ fn run_show(length: usize, line: &[u8], from: usize) {
     case_output::print_answer(answers::reply(0, 0, 0, length), &out);
 }
 
-// The letter that decides on a line: the first, or the one after an n.
-fn letter(line: &[u8]) -> u8
-    requires { ⌜ 1 ≤ length (now line) ⌝ }
-{
-    let first = line[0];
-    if first != b'n' || line.len() < 2 {
-        return first;
-    }
-    line[1]
-}
-
 // The case of a line. A comment is none.
 fn run(line: &[u8])
     requires { ⌜ 1 ≤ length (now line) ⌝ }
@@ -131,7 +120,7 @@ fn run(line: &[u8])
     if line[0] == b'#' {
         return;
     }
-    let word = letter(line);
+    let word = case_input::letter(line);
     if word == b'p' {
         return run_print(line);
     }

@@ -63,11 +63,8 @@ returns-3 c =
     rw (code-short (s .device) (s .request) (prologueWords (s .request)) (length (s .out .now)) (o .accepted) (omega (arith, length-is (c .before .before))))
     (c .reply3 .ensures, refl)
 
-negate-requires : tie.Need-negate-requires
-negate-requires c κs = let o = accepted-layout (c .before .before .before .before) in (omega arith, o .frame-le)
-
-add-write-word : tie.Need-add-write-word
-add-write-word c = search needs
+lower-sp-requires : tie.Need-lower-sp-requires
+lower-sp-requires c κs = let o = accepted-layout (c .before .before .before .before) in (omega arith, o .frame-le)
 
 write-word-requires : tie.Need-write-word-requires
 write-word-requires c κs = search needs
@@ -89,7 +86,7 @@ returns-4 c =
     let s = z .before .before .before .before .before .args in
     let r : Request = s .request in
     let o = accepted-layout (z .before .before) in
-    let first = rw (c .before .before .before .before .before .before .before .before .negate .ensures, o .frame) at (c .before .before .before .before .before .before .before .write-word .ensures) in
+    let first = rw (c .before .before .before .before .before .before .before .before .lower-sp .ensures, o .frame) at (c .before .before .before .before .before .before .before .write-word .ensures) in
     let put = prologue-put r (frame-nonzero (z .before)) _ _ _ first (c .before .before .before .put-saves .ensures .1) in
     let f = done-written (s .device) r (prologueWords r) (s .out .now) (o .accepted) (sym (length-is z)) (omega arith) put in
     (c .reply4 .ensures ∙ f .0, f .1)
@@ -107,8 +104,7 @@ prologue-spec =
     add-length
     reply-requires-3
     returns-3
-    negate-requires
-    add-write-word
+    lower-sp-requires
     write-word-requires
     put-saves-requires
     reply-requires-4

@@ -3,7 +3,8 @@
 use native.Mathlib.Omega.{arith}
 use Rattle.frame.specs.declared.Request.{Request}
 use Rattle.frame.proofs.Accepted.{savable-masks, low-general}
-use Rattle.frame_code.proofs.Bytes.{length-saves, saves-put}
+use Rattle.frame.proofs.Collect.{length-saves}
+use Rattle.frame_code.proofs.Bytes.{saves-put}
 use borrow.Author.Needs.{needs}
 use Rattle.frame_code.proofs.put_saves.Statement.{statement}
 use Rattle.frame_code.proofs.put_saves.Tie as tie

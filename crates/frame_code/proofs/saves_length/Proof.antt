@@ -2,7 +2,7 @@
 -- Assumes nothing.
 use native.Mathlib.Omega.{arith}
 use Rattle.frame.proofs.Accepted.{savable-masks, counted}
-use Rattle.frame_code.proofs.Bytes.{length-saves}
+use Rattle.frame.proofs.Collect.{length-saves}
 use Rattle.frame_code.proofs.saves_length.Statement.{statement}
 use Rattle.frame_code.proofs.saves_length.Tie as tie
 

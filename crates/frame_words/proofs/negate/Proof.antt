@@ -12,8 +12,8 @@ use mir.Facts.{toZ-pos, toZ-ofZ}
 use borrow.Author.Tests.{lt-ltb, le-ltb}
 use borrow.Author.Needs.{needs}
 use Rattle.frame.specs.Frame.{frameMost}
-use Rattle.frame_code.proofs.negate.Statement.{statement}
-use Rattle.frame_code.proofs.negate.Tie as tie
+use Rattle.frame_words.proofs.negate.Statement.{statement}
+use Rattle.frame_words.proofs.negate.Tie as tie
 
 -- -f
 minus-is : (f : ℕ) → 0 < f → f ≤ frameMost → pos 0 -ℤ toZ w16 f ≡ negsuc (f - 1)

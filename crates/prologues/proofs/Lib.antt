@@ -1,0 +1,9 @@
+pub mod Counting
+pub mod StoreWords
+pub mod Tests
+pub mod Answers
+pub mod Verdicts
+pub mod Entering
+pub mod Ours
+pub mod Theorem
+pub mod Cases

@@ -1,0 +1,4 @@
+pub mod WordsIn
+pub mod Stores
+pub mod FirstWrong
+pub mod Link
