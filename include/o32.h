@@ -1,7 +1,7 @@
 /*
  * o32.h - call images, structures and frames of the MIPS O32 convention.
  *
- * Ten functions do the work:
+ * Eleven functions do the work:
  *
  *   o32_make_plan  says where each argument of a signature lies, once for all
  *                  lists that have the signature;
@@ -17,6 +17,8 @@
  *   o32_frame      lays out a function's stack frame;
  *   o32_prologue   writes the instructions that set a frame up;
  *   o32_epilogue   writes those that take it down and return;
+ *   o32_check_prologue
+ *                  says whether instructions from elsewhere set a frame up;
  *   o32_describe   gives the size, the alignment and the kind of a structure,
  *                  from a description of its members.
  *
@@ -26,9 +28,9 @@
  * words; a buffer of length 0 may be a null pointer. Inputs are only read. On
  * success exactly the answered length is written, from the start of the output
  * buffer, and what lies beyond it keeps its content. On a refusal nothing of it
- * changes. o32_frame and o32_describe have no output buffer: all that they give
- * is in their answers. The functions may be called from several threads at
- * once.
+ * changes. o32_frame, o32_check_prologue and o32_describe have no output buffer:
+ * all that they give is in their answers. The functions may be called from
+ * several threads at once.
  *
  * WHAT IS ASKED OF THE CALLER. Each pointer is valid for its length, and that
  * to a plan is aligned as one to uint32_t must be; bytes need no alignment. The
@@ -43,7 +45,9 @@
  * where there is none. `length` is the number of bytes written, of words by
  * o32_make_plan, and 0 on a refusal. Look at every answer: after a refusal the
  * buffer still holds what it held before, such as the image of an earlier call,
- * and that would be loaded. The compiler warns where an answer is ignored.
+ * and that would be loaded. The compiler warns where an answer is ignored. Of
+ * o32_check_prologue look at `refusal` first: its `verdict` is 0 with a refusal
+ * as it is for code that is accepted.
  *
  * VERSIONS. O32_VERSION is the version of this header, o32_version() that of
  * the library. Both change with every release that changes or adds a struct or
@@ -58,8 +62,8 @@
  *
  * DEVICES
  *
- * The first parameter of each of the ten but o32_signature and o32_describe is
- * the device, the board that the call or the frame is for:
+ * The first parameter of each of the eleven but o32_signature and o32_describe
+ * is the device, the board that the call or the frame is for:
  *
  *   0  O32_FPU      it has a floating-point unit
  *   1  O32_NO_FPU   it has none
@@ -336,6 +340,43 @@
  *   11   locals above 16,384
  *   12   outgoing above 1,024, or not 0 in a leaf
  *   13   the code buffer is too short (o32_prologue, o32_epilogue)
+ *   21   the code's length is no multiple of 4, or above 256
+ *        (o32_check_prologue)
+ *
+ *
+ * PROLOGUES FROM ELSEWHERE
+ *
+ * o32_check_prologue says whether code, as another compiler made it, is a
+ * prologue for a request. It is one exactly if its words are
+ *
+ *   - addiu $sp,$sp,-F, once, before all stores;
+ *   - for each register that the request names, both of a pair, the word that
+ *     o32_prologue has for it, once, the stores being in any order;
+ *   - and 00000000, any number of times and anywhere.
+ *
+ * For a frame of no bytes the words are 00000000, or there are none. Such code
+ * leaves memory and registers as that of o32_prologue does.
+ *
+ * `verdict` is
+ *
+ *     0        O32_IS_PROLOGUE: the code is a prologue for the request
+ *    16..31    the general register of this number is the first whose store is
+ *              missing or is there more than once
+ *    52..63    likewise the floating register of this number less 32, where
+ *              each general register is stored once
+ *   255        O32_OTHER_WORDS: any other word is there, such as one of the
+ *              body, or a store at another place, of another register or by
+ *              another instruction; or the addiu is missing, is there more than
+ *              once or stands behind a store. This comes before the others,
+ *              wherever the word stands.
+ *
+ * Hand over the prologue alone, up to its last store: a word of the body behind
+ * it is another word.
+ *
+ * Example: for a function that is no leaf, saves $16 and $31 and has 4 bytes of
+ * locals, 27BDFFE0 AFBF0014 00000000 AFB00010 is a prologue. For 27BDFFE0
+ * AFBF0014 the verdict is 16. For 27BDFFE0 AFB00018 AFBF001C it is 255: both
+ * registers are stored, but at other places.
  */
 
 #ifndef O32_H
@@ -345,7 +386,7 @@
 #include <stdint.h>
 
 /* The version of this header. The library's must be the same. */
-#define O32_VERSION 5
+#define O32_VERSION 6
 
 /*
  * Makes the compiler warn where an answer is ignored: by the language's own
@@ -386,6 +427,13 @@ extern "C" {
 #define O32_PROLOGUE_MAX 96   /* the longest prologue */
 #define O32_EPILOGUE_MAX 100  /* the longest epilogue */
 
+/* The most bytes of code that o32_check_prologue looks at. */
+#define O32_CHECKED_MAX 256
+
+/* The verdicts on code that name no register. */
+#define O32_IS_PROLOGUE 0u    /* it is a prologue for the request */
+#define O32_OTHER_WORDS 255u  /* other words, or no addiu once and first */
+
 /* The refusal numbers. */
 enum o32_refusal {
     O32_ACCEPTED = 0,
@@ -408,7 +456,8 @@ enum o32_refusal {
     O32_TOO_DEEP = 17,
     O32_MEMBER_BEYOND_LIMIT = 18,
     O32_EMPTY_OR_NO_KIND = 19,
-    O32_PLAN_DIFFERS = 20
+    O32_PLAN_DIFFERS = 20,
+    O32_CODE_LENGTH = 21
 };
 
 /* What all functions answer that have an output buffer. */
@@ -453,6 +502,16 @@ typedef struct {
     uint32_t gp_saved; /* 1 if $28, the global pointer, is saved, else 0 */
     uint32_t gp;       /* offset of the word it is saved in; 0 if it isn't */
 } o32_layout;
+
+/*
+ * What o32_check_prologue answers. The code is a prologue for the request only
+ * if both `refusal` and `verdict` are 0.
+ */
+typedef struct {
+    uint32_t refusal; /* 0 if the code was looked at */
+    uint32_t place;   /* always 0 */
+    uint32_t verdict; /* see above; 0 on a refusal */
+} o32_verdict;
 
 /* What o32_describe answers. On a refusal size, alignment and kind are 0. */
 typedef struct {
@@ -552,6 +611,17 @@ o32_answer o32_epilogue(uint32_t device,
                         uint32_t leaf, uint32_t locals, uint32_t outgoing,
                         uint32_t general, uint32_t pairs,
                         uint8_t *code, size_t code_len);
+
+/*
+ * Says whether code is a prologue for a request: instruction words, big-endian.
+ * `code_len` counts bytes. Refuses 9 to 12, 14 and 21.
+ */
+O32_NODISCARD
+o32_verdict o32_check_prologue(uint32_t device,
+                               uint32_t leaf, uint32_t locals,
+                               uint32_t outgoing,
+                               uint32_t general, uint32_t pairs,
+                               const uint8_t *code, size_t code_len);
 
 /*
  * Gives the size, the natural alignment and the kind of the structure that a

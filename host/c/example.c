@@ -1,7 +1,7 @@
 /*
  * A worked example: a sweep of calls by one plan, a call image written, read
- * back and taken apart as a routine with an ellipsis does, a frame's code, and
- * described structures.
+ * back and taken apart as a routine with an ellipsis does, a frame's code, code
+ * of another compiler for a frame, and described structures.
  *
  * Every buffer comes from malloc with exactly the length that is passed on, so
  * that a memory checker sees a byte or a word read or written too far.
@@ -846,6 +846,165 @@ static void largest_frame(void)
     free(code);
 }
 
+/* What o32_check_prologue answers is three words. */
+static void words_of_verdict(void)
+{
+    const size_t word = sizeof(uint32_t);
+    check(sizeof(o32_verdict) == 3 * word &&
+              offsetof(o32_verdict, refusal) == 0 &&
+              offsetof(o32_verdict, place) == word &&
+              offsetof(o32_verdict, verdict) == 2 * word,
+          "a verdict is refusal, place and verdict");
+}
+
+static int is_verdict(o32_verdict answer, uint32_t refusal, uint32_t verdict)
+{
+    return answer.refusal == refusal && answer.place == 0 &&
+           answer.verdict == verdict;
+}
+
+/* Code of words, big-endian, in a buffer of its own. */
+static uint8_t *code_of(const uint32_t *words, size_t count)
+{
+    uint8_t *code = buffer(4 * count);
+    for (size_t i = 0; i < 4 * count; i++) {
+        code[i] = (uint8_t)(words[i / 4] >> (24 - 8 * (i % 4)));
+    }
+    return code;
+}
+
+/*
+ * What is said of words as the prologue of a function that calls others, saves
+ * $16 and $31, the pair $f20 and $f21 too if `pairs` is 1, and has one word of
+ * locals. The code must stay as it is.
+ */
+static o32_verdict verdict_on(uint32_t device, uint32_t pairs,
+                              const uint32_t *words, size_t count)
+{
+    const uint32_t general = UINT32_C(1) << 16 | UINT32_C(1) << 31;
+
+    uint8_t *code = code_of(words, count);
+    o32_verdict answer =
+        o32_check_prologue(device, 0, 4, 0, general, pairs, code, 4 * count);
+    if (!are_words(code, words, count)) {
+        check(0, "code is as it was");
+    }
+    free(code);
+    return answer;
+}
+
+/* The stores may stand in any order, and 00000000 anywhere. */
+static void prologues_of_others(void)
+{
+    static const uint32_t turned[] = {0, 0x27BDFFE0, 0xAFBF0014, 0,
+                                      0xAFB00010, 0};
+    static const uint32_t pair[] = {0x27BDFFD8, 0xAFB00018, 0xE7B50014,
+                                    0xAFBF001C, 0xE7B40010};
+
+    check(is_verdict(verdict_on(O32_FPU, 0, turned, 6), 0, O32_IS_PROLOGUE) &&
+              is_verdict(verdict_on(O32_NO_FPU, 0, turned, 6), 0,
+                         O32_IS_PROLOGUE),
+          "a prologue has its stores in any order, and no-operations");
+    check(is_verdict(verdict_on(O32_FPU, 1, pair, 5), 0, 0) &&
+              is_verdict(verdict_on(O32_NO_FPU, 1, pair, 5),
+                         O32_PAIRS_WITHOUT_UNIT, 0),
+          "with a pair both its registers, and not without a unit");
+    check(is_verdict(verdict_on(O32_FPU, 1, pair, 4), 0, 52) &&
+              is_verdict(verdict_on(O32_FPU, 1, pair, 3), 0, 31),
+          "the first register is named that is not stored");
+    check(is_verdict(verdict_on(O32_FPU, 1, pair, 2), 0, 31) &&
+              is_verdict(verdict_on(O32_FPU, 1, pair, 1), 0, 16),
+          "and general registers are named before floating ones");
+}
+
+/* A doubled store has its register's number, any other word 255. */
+static void no_prologues(void)
+{
+    static const uint32_t doubled[] = {0x27BDFFE0, 0xAFBF0014, 0xAFB00010,
+                                       0xAFBF0014, 0xAFBF0014};
+    static const uint32_t elsewhere[] = {0x27BDFFE0, 0xAFB00018, 0xAFBF001C};
+    static const uint32_t body[] = {0x27BDFFE0, 0xAFBF0014, 0x00808021};
+    static const uint32_t late[] = {0xAFBF0014, 0x27BDFFE0, 0xAFB00010};
+
+    check(is_verdict(verdict_on(O32_FPU, 0, doubled, 4), 0, 31) &&
+              is_verdict(verdict_on(O32_FPU, 0, doubled, 5), 0, 31),
+          "a register that is stored twice or more is named");
+    check(is_verdict(verdict_on(O32_FPU, 0, elsewhere, 3), 0,
+                     O32_OTHER_WORDS),
+          "registers at other places are other words");
+    check(is_verdict(verdict_on(O32_FPU, 0, body, 3), 0, O32_OTHER_WORDS) &&
+              is_verdict(verdict_on(O32_FPU, 0, body, 2), 0, 16),
+          "so is a word of the body, whatever is missing");
+    check(is_verdict(verdict_on(O32_FPU, 0, late, 3), 0, O32_OTHER_WORDS) &&
+              is_verdict(verdict_on(O32_FPU, 0, NULL, 0), 0, O32_OTHER_WORDS),
+          "and $sp is moved first");
+}
+
+/* A leaf without a frame has no words, or no-operations. */
+static void prologues_of_no_frame(void)
+{
+    static const uint32_t addiu[] = {0x27BD0000};
+
+    uint8_t *code = code_of(addiu, 1);
+    check(is_verdict(o32_check_prologue(O32_FPU, 1, 0, 0, 0, 0, NULL, 0), 0,
+                     O32_IS_PROLOGUE) &&
+              is_verdict(o32_check_prologue(O32_FPU, 1, 0, 0, 0, 0, code, 4),
+                         0, O32_OTHER_WORDS),
+          "a leaf without a frame does not move $sp, not even by 0");
+    free(code);
+}
+
+/* Lengths from 0 to some beyond the most that is looked at. */
+static void lengths_of_code(void)
+{
+    int as_expected = 1;
+    for (size_t length = 0; length < O32_CHECKED_MAX + 9; length++) {
+        uint32_t refusal = 0;
+        if (length % 4 != 0 || length > O32_CHECKED_MAX) {
+            refusal = O32_CODE_LENGTH;
+        }
+        uint8_t *code = buffer(length);
+        memset(code, 0, length);
+        as_expected =
+            as_expected &&
+            is_verdict(o32_check_prologue(O32_FPU, 1, 0, 0, 0, 0, code, length),
+                       refusal, 0) &&
+            is_verdict(o32_check_prologue(O32_FPU, 0, 0, 0, 0, 0, code, length),
+                       O32_RETURN_ADDRESS_NOT_SAVED, 0);
+        free(code);
+    }
+    check(as_expected && O32_CHECKED_MAX == 256,
+          "code has whole words, at most 64; the request is looked at first");
+}
+
+/* What o32_prologue writes is a prologue. */
+static void own_prologue(void)
+{
+    uint8_t *code = buffer(O32_PROLOGUE_MAX);
+    check(longest_prologue(code, O32_PROLOGUE_MAX).refusal == 0 &&
+              is_verdict(o32_check_prologue(O32_FPU, 0, 16384, 1024,
+                                            all_registers, 63, code,
+                                            O32_PROLOGUE_MAX),
+                         0, O32_IS_PROLOGUE),
+          "the longest prologue is one");
+    check(is_verdict(o32_check_prologue(O32_FPU, 0, 16384, 1024, all_registers,
+                                        63, code, O32_PROLOGUE_MAX - 4),
+                     0, 31),
+          "and without its last word it lacks the store of $31");
+    free(code);
+}
+
+/* Prologues of another compiler. */
+static void checked_prologues(void)
+{
+    words_of_verdict();
+    prologues_of_others();
+    no_prologues();
+    prologues_of_no_frame();
+    lengths_of_code();
+    own_prologue();
+}
+
 static void frames(void)
 {
     words_of_layout();
@@ -853,6 +1012,7 @@ static void frames(void)
     global_pointer();
     code_with_gp();
     largest_frame();
+    checked_prologues();
 }
 
 /* A double, a single and a double. */

@@ -18,5 +18,6 @@ void ignore(const uint8_t *input, uint8_t *output, uint32_t *plan)
     o32_frame(O32_FPU, 1, 0, 0, 0, 0);
     o32_prologue(O32_FPU, 1, 0, 0, 0, 0, output, 1);
     o32_epilogue(O32_FPU, 1, 0, 0, 0, 0, output, 1);
+    o32_check_prologue(O32_FPU, 1, 0, 0, 0, 0, input, 1);
     o32_describe(input, 1);
 }

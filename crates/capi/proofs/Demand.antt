@@ -1,5 +1,5 @@
--- Demands 1 and 3, and what holds of the walker, of plans and of descriptions, of what the functions for C answer and leave in their
--- buffers, for every device number.
+-- Demands 1 and 3, and what holds of the walker, of plans, of descriptions and of the check of prologues, of what the functions for C
+-- answer and leave in their buffers, for every device number.
 -- Assumes nothing.
 use mathlib.Core.Path.{_≡_, refl}
 use mathlib.Core.List.{[]}
@@ -15,7 +15,9 @@ use Rattle.plans.specs.Pair.{Pairs, Demands}
 use Rattle.plans.proofs.Theorem.{pairs, demands}
 use Rattle.descriptions.specs.Descriptions.{Describes}
 use Rattle.descriptions.proofs.Theorem.{described-right}
-use Rattle.capi.specs.Numbers.{deviceOf, functionsForC, walkerForC, pairForC, describerForC}
+use Rattle.prologues.specs.Prologues.{Checks}
+use Rattle.prologues.proofs.Theorem.{checks}
+use Rattle.capi.specs.Numbers.{deviceOf, functionsForC, walkerForC, pairForC, describerForC, checkerForC}
 
 -- A case, computed: the empty list into a buffer of 49 bytes has an image of 48.
 pub empty-for-c : functionsForC 0 .write [] (replicate 49 0xC5) .length ≡ 48
@@ -38,3 +40,6 @@ demands-by-plan-for-c device = demands (deviceOf device)
 
 pub descriptions-for-c : Describes describerForC
 descriptions-for-c = described-right
+
+pub checks-for-c : Checks checkerForC
+checks-for-c = checks

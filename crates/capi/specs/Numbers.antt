@@ -20,6 +20,7 @@ use Rattle.descriptions.specs.Describing.{described}
 use Rattle.frame.specs.declared.Request.{Request}
 use Rattle.frame.specs.declared.Layout.{Layout}
 use Rattle.prologues.specs.declared.Verdict.{Verdict}
+use Rattle.prologues.specs.Checking.{checked}
 use Rattle.capi.specs.declared.O32Answer.{O32Answer}
 use Rattle.capi.specs.declared.O32Layout.{O32Layout}
 use Rattle.capi.specs.declared.O32Structure.{O32Structure}
@@ -96,3 +97,9 @@ abbrev pub describerForC : List ℕ → Structure
 describerForC bytes =
     let x : O32Structure = structureNumbers (described bytes) in
     record { refusal = x .refusal; place = x .place; size = x .size; alignment = x .alignment; kind = x .kind }
+
+-- `o32_check_prologue`, likewise.
+abbrev pub checkerForC : Device → Request → List ℕ → Verdict
+checkerForC d r code =
+    let x : O32Verdict = verdictNumbers (checked d r code) in
+    record { refusal = x .refusal; place = x .place; verdict = x .verdict }

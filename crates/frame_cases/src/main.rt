@@ -1,5 +1,5 @@
-// Runs the frames of a text on standard input, one to a line, and prints what layout, prologue, epilogue and the check of prologues
-// answer.
+// Runs the frames and the checks of prologues of a text on standard input, one to a line, and prints what layout, prologue, epilogue
+// and check answer.
 //
 // An empty line, and a line that starts with #, is printed as it is. Any other line is printed with the answer below it:
 //

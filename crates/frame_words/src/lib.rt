@@ -1,5 +1,5 @@
-// What a mask names; and instructions on save words, upward into a code buffer: the stores of a prologue or the loads of an
-// epilogue. `op` is the instruction's word with register 0 and offset 0; `swc1`'s is the largest.
+// What a mask names; the `addiu` of a prologue; and instructions on save words, upward into a code buffer: the stores of a prologue or
+// the loads of an epilogue. `op` is the instruction's word with register 0 and offset 0; `swc1`'s is the largest.
 ghost use mathlib.Core.List.{[], _∷_, map};
 ghost use mathlib.Core.Path.{_≡_};
 ghost use Prim.Native.Nat.{_%_, _*_, _+_, _-_, _<_, _≤_};

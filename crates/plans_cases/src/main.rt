@@ -172,17 +172,6 @@ fn run_case(word: u8, device: Device, room: usize, line: &[u8], from: usize)
     print_case(word, device, room, &signature[..n], &list[..m]);
 }
 
-// The letter that decides on a line: the first, or the one after an n.
-fn letter(line: &[u8]) -> u8
-    requires { ⌜ 1 ≤ length (now line) ⌝ }
-{
-    let first = line[0];
-    if first != b'n' || line.len() < 2 {
-        return first;
-    }
-    line[1]
-}
-
 // The case of a line. A comment is none.
 fn run(line: &[u8])
     requires { ⌜ 1 ≤ length (now line) ⌝ }
@@ -191,7 +180,7 @@ fn run(line: &[u8])
         return;
     }
     let device = case_input::device_of(line);
-    let word = letter(line);
+    let word = case_input::letter(line);
     if word == b'p' {
         return run_plan(device, line);
     }

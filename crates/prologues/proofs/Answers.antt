@@ -32,8 +32,8 @@ module _ (code : List ℕ) where
     pub length-right : ltb codeMost (length code) ≡ false → hasWrongLength code ≡ false
     length-right h = simp (eq-eqb (length code % 4) 0 e, h)
 
-  pub wrong-length : Says (hasWrongLength code) (WrongLength code) (WrongLength code → ⊥)
-  wrong-length = by (ℕ-discrete (length code % 4) 0) (decLt codeMost (length code))
+  pub says-length : Says (hasWrongLength code) (WrongLength code) (WrongLength code → ⊥)
+  says-length = by (ℕ-discrete (length code % 4) 0) (decLt codeMost (length code))
     where
       by : Dec (length code % 4 ≡ 0) → Dec (codeMost < length code) → Says (hasWrongLength code) (WrongLength code) (WrongLength code → ⊥)
       by (no n) d = inl (length-uneven n, inl n)
@@ -63,9 +63,9 @@ module _ (d : Device) (r : Request) (code : List ℕ) where
   checked-refused n = simp (ne-eqb (refusalOf d r) 0 n)
 
   module _ (ok : refusalOf d r ≡ 0) where
-    pub checked-miscut : hasWrongLength code ≡ true → checked d r code ≡ refusedWith 21
+    pub checked-length : hasWrongLength code ≡ true → checked d r code ≡ refusedWith 21
     unfolding checked
-    checked-miscut e = simp (eq-eqb (refusalOf d r) 0 ok, e)
+    checked-length e = simp (eq-eqb (refusalOf d r) 0 ok, e)
 
     pub checked-judged : hasWrongLength code ≡ false → checked d r code ≡ judged (verdictOn (frameOf r) (savesOf r) (wordsIn code))
     unfolding checked

@@ -13,7 +13,8 @@ use Rattle.frame.specs.Masks.{countBelow}
 use Rattle.frame.specs.Frame.{refusalOf, generalAt, localsAt, frameOf}
 use Rattle.frame.specs.Words.{collect, savesOf}
 use Rattle.prologues.specs.declared.Verdict.{Verdict}
-use Rattle.prologues.specs.Checking.{count, instructions, areStores, isOpened, isWrong, firstFrom, verdictOn, refusedWith, judged, checked}
+use Rattle.prologues.specs.Checking.{count, instructions, areStores, isOpened, isWrong, firstFrom, verdictOn, checked}
+use Rattle.prologues.specs.Prologues.{answer}
 
 -- A case: the device, the request, the bytes, and what is to be answered.
 data Case : Type 0 where
@@ -28,19 +29,19 @@ all (case d r code x ∷ cs) = same (checked d r code) x && all cs
 
 -- "not a leaf, `$16` and `$31`, L = 4, outgoing 0: F = 32, prologue 27BDFFE0 AFB00010 AFBF0014"
 abbrev example : List ℕ → ℕ → Case
-example ws n = case NoFpu (record { leaf = false; locals = 4; outgoing = 0; general = 2 ^ 16 + 2 ^ 31; pairs = 0 }) (bytesOfWords ws) (judged n)
+example ws n = case NoFpu (record { leaf = false; locals = 4; outgoing = 0; general = 2 ^ 16 + 2 ^ 31; pairs = 0 }) (bytesOfWords ws) (answer 0 n)
 
 -- a leaf with `$16`, `$f22` and `$f23`
 abbrev paired : List ℕ → ℕ → Case
-paired ws n = case Fpu (record { leaf = true; locals = 0; outgoing = 0; general = 2 ^ 16; pairs = 2 }) (bytesOfWords ws) (judged n)
+paired ws n = case Fpu (record { leaf = true; locals = 0; outgoing = 0; general = 2 ^ 16; pairs = 2 }) (bytesOfWords ws) (answer 0 n)
 
 -- a leaf that saves nothing and has no locals: F = 0
 abbrev empty : List ℕ → ℕ → Case
-empty ws n = case Fpu (record { leaf = true; locals = 0; outgoing = 0; general = 0; pairs = 0 }) (bytesOfWords ws) (judged n)
+empty ws n = case Fpu (record { leaf = true; locals = 0; outgoing = 0; general = 0; pairs = 0 }) (bytesOfWords ws) (answer 0 n)
 
--- code for a leaf with `$16` that is refused, and for one whose mask is refused 9
+-- a leaf with the registers of a mask, where the mask or the code is refused
 abbrev refuses : ℕ → List ℕ → ℕ → Case
-refuses mask code n = case Fpu (record { leaf = true; locals = 0; outgoing = 0; general = mask; pairs = 0 }) code (refusedWith n)
+refuses mask code n = case Fpu (record { leaf = true; locals = 0; outgoing = 0; general = mask; pairs = 0 }) code (answer n 0)
 
 abbrev verdicts : List Case
 verdicts =
@@ -83,7 +84,7 @@ verdicts-hold : T (all verdicts)
 unfolding checked verdictOn refusalOf frameOf localsAt generalAt countBelow savesOf collect instructions isOpened areStores count isWrong firstFrom
 verdicts-hold = tt
 
--- "21, length no multiple of 4 or above 256 bytes, after the frame's 9 to 12"
+-- "21, length no multiple of 4 or above 256 bytes, after the frame's 9 to 12"; the verdict is 0
 abbrev lengths : List Case
 lengths =
     refuses (2 ^ 16) (0x27 ∷ []) 21

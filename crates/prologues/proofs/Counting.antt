@@ -28,11 +28,6 @@ module _ {A : Type 0} where
   among-none [] h = refl
   among-none (x ∷ xs) h = absurd (h x (inl refl))
 
-  pub among-left : (x : A) (xs ys : List A) → Among x xs → Among x (xs ++ ys)
-  among-left x [] ys i = absurd i
-  among-left x (z ∷ zs) ys (inl e) = inl e
-  among-left x (z ∷ zs) ys (inr i) = inr (among-left x zs ys i)
-
   pub among-right : (x : A) (xs ys : List A) → Among x ys → Among x (xs ++ ys)
   among-right x [] ys i = i
   among-right x (z ∷ zs) ys i = inr (among-right x zs ys i)

@@ -18,7 +18,7 @@ use Rattle.frame.proofs.Each.{Line, follows-next, proceed-line, Area, Goes}
 use Rattle.frame.proofs.Stores.{store, store-goes, Stored}
 use Rattle.frame.proofs.Prologue.{Entered, area, no-saves, lower, entered, step-lowers}
 use Rattle.prologues.specs.Checking.{count, instructions}
-use Rattle.prologues.specs.Prologues.{Among, StoresOnce, IsPrologue, SameAside}
+use Rattle.prologues.specs.Prologues.{Among, StoresOnce, IsPrologue, SameExceptPc}
 use Rattle.prologues.proofs.Counting.{all-among, among-all, count-other, count-none, among-instructions, instructions-none, instructions-zero, instructions-more, count-instructions}
 use Rattle.prologues.proofs.StoreWords.{store-nonzero, store-offset}
 
@@ -81,6 +81,7 @@ module _ (F : ℕ) (vs : List Save) (d : Sound F vs) where
         later v (inl e) = inl e
         later v (inr h) = inr (omega (arith, h, count-other (storeWord v) w ws (λ e. store-nonzero v (sym e ∙ z))))
 
+    -- a save word holds its register from its store on: a later store at its place is of the same save
     obeyed-store : (u : Save) → Among u vs → w ≡ storeWord u → s .target ≡ none → Obeyed p ws (store p u s) t → Obeyed p (w ∷ ws) s t
     obeyed-store u i q n o = record {
       at = o .at ∙ ap (laterAddress (length ws)) (follows-next s n);
@@ -250,7 +251,7 @@ module _ (F : ℕ) (vs : List Save) (s : State) where
           ∙ sym (all-among (λ v. u .mem (u .reg 29 + v .offset) ≡ contents s v) vs (f .saved) v (h .1)) ∙ ap (λ (x : ℕ). u .mem (x + v .offset)) (sym same) ∙ ap (u .mem) (sym (h .2))
       by (inr h) = e .elsewhere a h ∙ sym (f .elsewhere a (subst (λ (x : ℕ). All (λ v. a ≡ x + v .offset → ⊥) vs) same h))
 
-  pub entered-same : (n m : ℕ) (t u : State) → Entered F vs n s t → Entered F vs m s u → SameAside t u
+  pub entered-same : (n m : ℕ) (t u : State) → Entered F vs n s t → Entered F vs m s u → SameExceptPc t u
   entered-same n m t u e f = record {
     reg = fun-ext (λ k. register k (ℕ-discrete k 29));
     freg = fun-ext (λ k. e .floating k ∙ sym (f .floating k));

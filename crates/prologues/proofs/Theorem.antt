@@ -3,8 +3,8 @@
 use mathlib.Core.Path.{_≡_, refl, sym, ap, _∙_, subst}
 use mathlib.Core.Logic.{inl, inr}
 use mathlib.Core.List.{List}
-use mathlib.Core.Bool.{Bool, true, false, cond}
-use Prim.Native.Nat.{ℕ, _+_, _<_}
+use mathlib.Core.Bool.{false}
+use Prim.Native.Nat.{ℕ, _<_}
 use native.Mathlib.Omega.{arith}
 use native.Mathlib.Decide.{ℕ-discrete}
 use Rattle.device.specs.declared.Device.{Device}
@@ -14,15 +14,15 @@ use Rattle.frame.specs.Frame.{refusalOf, frameOf}
 use Rattle.frame.specs.Words.{Save, savesOf, prologueFor, prologueWords, epilogueWords}
 use Rattle.frame.specs.Keeping.{wordsIn, Keeps}
 use Rattle.frame.proofs.Accepted.{accepted}
-use Rattle.frame.proofs.Saves.{Fit, Sound}
+use Rattle.frame.proofs.Saves.{Sound}
 use Rattle.frame.proofs.Sound.{sound}
 use Rattle.frame.proofs.Prologue.{no-saves}
 use Rattle.frame.proofs.Theorem.{Enters, prologue-enters, enters-keeps}
 use Rattle.frame.proofs.WordsIn.{words-in, prologue-small, length-bytes-of-words}
 use Rattle.prologues.specs.declared.Verdict.{Verdict}
-use Rattle.prologues.specs.Checking.{numberOf, verdictOn, hasWrongLength, refusedWith, judged, checked}
+use Rattle.prologues.specs.Checking.{verdictOn, hasWrongLength, refusedWith, judged, checked}
 use Rattle.prologues.specs.Prologues.{Among, IsPrologue, Names, LeavesAsOurs, WrongLength, Checks}
-use Rattle.prologues.proofs.Answers.{wrong-length, checked-refused, checked-miscut, checked-judged}
+use Rattle.prologues.proofs.Answers.{says-length, checked-refused, checked-length, checked-judged}
 use Rattle.prologues.proofs.Counting.{all-among}
 use Rattle.prologues.proofs.Tests.{Says}
 use Rattle.prologues.proofs.Verdicts.{names}
@@ -35,18 +35,14 @@ module _ (d : Device) (r : Request) (ok : refusalOf d r ≡ 0) where
   saves-sound : Sound (frameOf r) (savesOf r)
   saves-sound = sound (accepted d r ok)
 
-  numbers : (v : Save) → Among v (savesOf r) → (0 < numberOf v) × (numberOf v < 64)
-  numbers v i = by (v .float) (fits (frameOf r) (savesOf r) saves-sound v i)
-    where
-      by : (b : Bool) → Fit v → (0 < cond b (32 + v .number) (v .number)) × (cond b (32 + v .number) (v .number) < 64)
-      by true f = (omega arith, omega (arith, f .number))
-      by false f = (f .real, omega (arith, f .number))
+  numbered : (v : Save) → Among v (savesOf r) → (0 < v .number) × (v .number < 32)
+  numbered v i = let f = fits (frameOf r) (savesOf r) saves-sound v i in (f .real, f .number)
 
   framed-saves : (v : Save) → Among v (savesOf r) → frameOf r ≡ 0 → ⊥
   framed-saves v i z = all-among (λ _. ⊥) (savesOf r) (no-saves (λ _. ⊥) 0 (savesOf r) (frameOf r) z (saves-sound .span)) v i
 
   pub verdict-names : (ws : List ℕ) → Names (frameOf r) (savesOf r) ws (verdictOn (frameOf r) (savesOf r) ws)
-  verdict-names ws = names (frameOf r) (savesOf r) ws numbers framed-saves
+  verdict-names ws = names (frameOf r) (savesOf r) ws numbered framed-saves
 
   -- ---- the machine
 
@@ -63,12 +59,12 @@ module _ (d : Device) (r : Request) (code : List ℕ) (e : checked d r code ≡ 
   refusal-is v q = ap (λ (x : Verdict). x .refusal) (sym q ∙ e)
 
   pub taken : (refusalOf d r ≡ 0) × IsPrologue (frameOf r) (savesOf r) (wordsIn code)
-  taken = by (ℕ-discrete (refusalOf d r) 0) (wrong-length code)
+  taken = by (ℕ-discrete (refusalOf d r) 0) (says-length code)
     where
       by : Dec (refusalOf d r ≡ 0) → Says (hasWrongLength code) (WrongLength code) (WrongLength code → ⊥)
           → (refusalOf d r ≡ 0) × IsPrologue (frameOf r) (savesOf r) (wordsIn code)
       by (no n) w = absurd (n (refusal-is _ (checked-refused d r code n)))
-      by (yes ok) (inl w) = absurd (omega (arith, refusal-is _ (checked-miscut d r code ok (w .0))))
+      by (yes ok) (inl w) = absurd (omega (arith, refusal-is _ (checked-length d r code ok (w .0))))
       by (yes ok) (inr w) =
           (ok, verdict-names d r ok (wordsIn code) .accepted .0 (ap (λ (x : Verdict). x .verdict) (sym (checked-judged d r code ok (w .0)) ∙ e)))
 
@@ -93,8 +89,8 @@ module _ (d : Device) (r : Request) (code : List ℕ) (e : checked d r code ≡ 
 pub checks : Checks checked
 checks = record {
   refused = checked-refused;
-  miscut = λ d r code ok h. by-length d r code ok h (wrong-length code);
-  verdict = λ d r code ok h. judging d r code ok h (wrong-length code);
+  wrong-length = λ d r code ok h. by-length d r code ok h (says-length code);
+  verdict = λ d r code ok h. judging d r code ok h (says-length code);
   leaves = leaves;
   keeps = keeps;
   ours = own;
@@ -102,7 +98,7 @@ checks = record {
   where
     by-length : (d : Device) (r : Request) (code : List ℕ) → refusalOf d r ≡ 0 → WrongLength code
         → Says (hasWrongLength code) (WrongLength code) (WrongLength code → ⊥) → checked d r code ≡ refusedWith 21
-    by-length d r code ok h (inl w) = checked-miscut d r code ok (w .0)
+    by-length d r code ok h (inl w) = checked-length d r code ok (w .0)
     by-length d r code ok h (inr w) = absurd (w .1 h)
 
     judging : (d : Device) (r : Request) (code : List ℕ) → refusalOf d r ≡ 0 → (WrongLength code → ⊥)
@@ -114,7 +110,7 @@ checks = record {
     own : (d : Device) (r : Request) → refusalOf d r ≡ 0 → checked d r (bytesOfWords (prologueWords r)) ≡ judged 0
     own d r ok =
         let ours : List ℕ = bytesOfWords (prologueWords r) in
-        checked-judged d r ours ok (fine (wrong-length ours))
+        checked-judged d r ours ok (fine (says-length ours))
         ∙ ap judged (verdict-names d r ok (wordsIn ours) .accepted .1 (subst (IsPrologue (frameOf r) (savesOf r)) (sym (own-words d r ok)) (ours-prologue (frameOf r) (savesOf r) (saves-sound d r ok))))
       where
         fine : Says (hasWrongLength (bytesOfWords (prologueWords r))) (WrongLength (bytesOfWords (prologueWords r))) (WrongLength (bytesOfWords (prologueWords r)) → ⊥)
@@ -140,11 +136,11 @@ names-one F saves ws m n a b = by (ℕ-discrete m 0) (ℕ-discrete m 255)
         sym (b .register m low high .1 (a .register m low high .0 refl))
 
 pub determined : (f g : Device → Request → List ℕ → Verdict) → Checks f → Checks g → (d : Device) (r : Request) (code : List ℕ) → f d r code ≡ g d r code
-determined f g a b d r code = by (ℕ-discrete (refusalOf d r) 0) (wrong-length code)
+determined f g a b d r code = by (ℕ-discrete (refusalOf d r) 0) (says-length code)
   where
     by : Dec (refusalOf d r ≡ 0) → Says (hasWrongLength code) (WrongLength code) (WrongLength code → ⊥) → f d r code ≡ g d r code
     by (no n) w = a .refused d r code n ∙ sym (b .refused d r code n)
-    by (yes ok) (inl w) = a .miscut d r code ok (w .1) ∙ sym (b .miscut d r code ok (w .1))
+    by (yes ok) (inl w) = a .wrong-length d r code ok (w .1) ∙ sym (b .wrong-length d r code ok (w .1))
     by (yes ok) (inr w) =
         let x = a .verdict d r code ok (w .1) in
         let y = b .verdict d r code ok (w .1) in

@@ -4,17 +4,52 @@ use mathlib.Core.Path.{_≡_, refl, sym, ap, _∙_, subst}
 use mathlib.Core.Logic.{_⊎_, inl, inr}
 use mathlib.Core.List.{List, [], _∷_, _++_, map, head-eq-of-cons-eq, tail-eq-of-cons-eq}
 use mathlib.Core.Bool.{Bool, true, false}
-use Prim.Native.Nat.{ℕ, _+_, _<_}
+use Prim.Native.Nat.{ℕ, suc, _+_, _<_}
 use native.Mathlib.Omega.{arith}
 use native.Mathlib.Decide.{ℕ-discrete, decLt}
 use Rattle.frame.specs.Words.{Save, storeWord, lowering}
 use Rattle.prologues.specs.Checking.{count, instructions, isOpened, numberOf, isWrong, firstWrong, verdictOn}
-use Rattle.prologues.specs.Prologues.{Among, IsPrologue, Foreign, FirstWrong, Names}
+use Rattle.prologues.specs.Prologues.{Among, IsPrologue, Foreign, Before, FirstWrong, Names}
 use Rattle.prologues.specs.Prologues.Foreign.{other, missing, doubled, late}
+use Rattle.prologues.specs.Prologues.Before.{kind, number}
 use Rattle.prologues.proofs.Answers.{verdict-other, verdict-first}
 use Rattle.prologues.proofs.Counting.{among-right, among-none, among-map, map-among, count-one-more, count-other, count-none, among-counted, counted-among, instructions-more, count-instructions, among-instructions, instructions-among, instructions-append, first-instruction}
 use Rattle.prologues.proofs.StoreWords.{addiu-nonzero, store-nonzero, store-no-addiu}
 use Rattle.prologues.proofs.Tests.{Says, says-yes, says-no, Opened, frameless, framed, Unopened, no-frame, no-words, other-first, no-store, is-opened, Wrong, is-wrong, None, First, first-from}
+
+-- ---- the order of the registers
+
+module _ (v : Save) where
+  number-general : v .float ≡ false → v .number ≡ numberOf v
+  number-general e = rw e refl
+
+  number-floating : v .float ≡ true → 32 + v .number ≡ numberOf v
+  number-floating e = rw e refl
+
+  numbers-small : (0 < v .number) × (v .number < 32) → (0 < numberOf v) × (numberOf v < 64)
+  numbers-small h = by (v .float) refl
+    where
+      by : (b : Bool) → v .float ≡ b → (0 < numberOf v) × (numberOf v < 64)
+      by true e = (omega (arith, number-floating e), omega (arith, h .1, number-floating e))
+      by false e = (omega (arith, h .0, number-general e), omega (arith, h .1, number-general e))
+
+module _ (u v : Save) (low : u .number < 32) where
+  before-less : Before u v → numberOf u < numberOf v
+  before-less (kind a b) = omega (arith, number-general u a, number-floating v b)
+  before-less (number e l) = by (v .float) e refl
+    where
+      by : (b : Bool) → u .float ≡ b → v .float ≡ b → numberOf u < numberOf v
+      by true p q = omega (arith, l, number-floating u p, number-floating v q)
+      by false p q = omega (arith, l, number-general u p, number-general v q)
+
+less-before : (u v : Save) → v .number < 32 → numberOf u < numberOf v → Before u v
+less-before u v high h = by (u .float) (v .float) refl refl
+  where
+    by : (a b : Bool) → u .float ≡ a → v .float ≡ b → Before u v
+    by true true p q = number (p ∙ sym q) (omega (arith, h, number-floating u p, number-floating v q))
+    by true false p q = absurd (omega (arith, h, number-floating u p, number-general v q))
+    by false true p q = kind p q
+    by false false p q = number (p ∙ sym q) (omega (arith, h, number-general u p, number-general v q))
 
 module _ (F : ℕ) (saves : List Save) where
   abbrev stores : List ℕ
@@ -26,6 +61,19 @@ module _ (F : ℕ) (saves : List Save) where
 
   module _ (ws : List ℕ) where
     -- ---- 255
+
+    -- the `addiu` stands among all words as often as among those that are not 00000000
+    count-addiu : (is : List ℕ) → instructions ws ≡ is → count (lowering F) ws ≡ count (lowering F) is
+    count-addiu is e = sym (count-instructions (lowering F) ws (addiu-nonzero F)) ∙ ap (count (lowering F)) e
+
+    -- once more than after the first, where that is it
+    count-first : (rest : List ℕ) → instructions ws ≡ lowering F ∷ rest → count (lowering F) ws ≡ suc (count (lowering F) rest)
+    count-first rest e = count-addiu (lowering F ∷ rest) e ∙ count-one-more (lowering F) (lowering F) rest refl
+
+    -- a store stands after the `addiu` only, where that is the first
+    count-stored : (v : Save) (rest : List ℕ) → instructions ws ≡ lowering F ∷ rest → count (storeWord v) ws ≡ count (storeWord v) rest
+    count-stored v rest e =
+        sym (count-instructions (storeWord v) ws (store-nonzero v)) ∙ ap (count (storeWord v)) e ∙ count-other (storeWord v) (lowering F) rest (store-no-addiu v F)
 
     -- a word that is not 00000000, no store and not the `addiu` of a frame
     foreign-word : (w : ℕ) → Among w (instructions ws) → ((F ≡ 0 → ⊥) → w ≡ lowering F → ⊥) → (Among w stores → ⊥) → Foreign F saves ws
@@ -47,7 +95,7 @@ module _ (F : ℕ) (saves : List Save) where
 
             found : Dec (count (lowering F) rest ≡ 0) → Foreign F saves ws
             found (yes none) =
-                missing z (sym (count-instructions (lowering F) ws (addiu-nonzero F)) ∙ ap (count (lowering F)) e ∙ count-other (lowering F) w rest n ∙ none)
+                missing z (count-addiu (w ∷ rest) e ∙ count-other (lowering F) w rest n ∙ none)
             found (no some) =
                 late z (split .0) v (split .1) (split .2 ∙ ap (λ (x : ℕ). split .0 ++ (x ∷ split .1)) q) i
                 (instructions-among (lowering F) (split .1) (subst (Among (lowering F)) (sym (split .3)) (counted-among (lowering F) rest (omega arith))) .1)
@@ -58,17 +106,12 @@ module _ (F : ℕ) (saves : List Save) where
 
     unopened-foreign : Unopened F stores (instructions ws) → ((v : Save) → Among v saves → F ≡ 0 → ⊥) → Foreign F saves ws
     unopened-foreign (no-frame z w i) none = foreign-word w i (λ n. absurd (n z)) (λ j. let v = map-among storeWord w saves j in none (v .0) (v .1) z)
-    unopened-foreign (no-words n e) none =
-        missing n (sym (count-instructions (lowering F) ws (addiu-nonzero F)) ∙ ap (count (lowering F)) e ∙ count-none (lowering F))
+    unopened-foreign (no-words n e) none = missing n (count-addiu [] e ∙ count-none (lowering F))
     unopened-foreign (other-first n w rest e m) none = other-foreign n w rest e m
     unopened-foreign (no-store n rest e w i m) none = by (ℕ-discrete w (lowering F))
       where
         by : Dec (w ≡ lowering F) → Foreign F saves ws
-        by (yes q) = doubled n (omega (
-          arith,
-          sym (count-instructions (lowering F) ws (addiu-nonzero F)) ∙ ap (count (lowering F)) e ∙ count-one-more (lowering F) (lowering F) rest refl,
-          among-counted (lowering F) rest (subst (λ (x : ℕ). Among x rest) q i),
-        ))
+        by (yes q) = doubled n (omega (arith, count-first rest e, among-counted (lowering F) rest (subst (λ (x : ℕ). Among x rest) q i)))
         by (no q) = foreign-word w (subst (Among w) (sym e) (inr i)) (λ _. q) m
 
     -- what opens a frame has no other word, and the `addiu` once and first
@@ -82,12 +125,8 @@ module _ (F : ℕ) (saves : List Save) where
         by : (w ≡ lowering F) ⊎ Among w rest → ⊥
         by (inl q) = a z q
         by (inr j) = let v = map-among storeWord w saves (s w j) in t (v .0) (v .1) (v .2)
-    opened-not-foreign (framed z rest e s) (missing n c) =
-        omega (arith, sym (count-instructions (lowering F) ws (addiu-nonzero F)) ∙ ap (count (lowering F)) e ∙ count-one-more (lowering F) (lowering F) rest refl)
-    opened-not-foreign (framed z rest e s) (doubled n c) = addiu-not-among (s (lowering F) (counted-among (lowering F) rest (omega (
-      arith,
-      sym (count-instructions (lowering F) ws (addiu-nonzero F)) ∙ ap (count (lowering F)) e ∙ count-one-more (lowering F) (lowering F) rest refl,
-    ))))
+    opened-not-foreign (framed z rest e s) (missing n c) = omega (arith, count-first rest e)
+    opened-not-foreign (framed z rest e s) (doubled n c) = addiu-not-among (s (lowering F) (counted-among (lowering F) rest (omega (arith, count-first rest e))))
     opened-not-foreign (framed z rest e s) (late n before v after q i j) = by (instructions before) refl
       where
         tail : List ℕ
@@ -105,7 +144,10 @@ module _ (F : ℕ) (saves : List Save) where
 
     -- ---- the first register
 
-    module _ (numbers : (v : Save) → Among v saves → (0 < numberOf v) × (numberOf v < 64)) where
+    module _ (numbered : (v : Save) → Among v saves → (0 < v .number) × (v .number < 32)) where
+      numbers : (v : Save) → Among v saves → (0 < numberOf v) × (numberOf v < 64)
+      numbers v i = numbers-small v (numbered v i)
+
       abbrev so : ℕ → Bool
       so = isWrong saves ws
 
@@ -159,14 +201,22 @@ module _ (F : ℕ) (saves : List Save) where
               record {
                 save = u .save;
                 named = u .named;
-                number = u .number ∙ e;
+                general = λ g. sym (number-general (u .save) g ∙ u .number ∙ e);
+                floating = λ g. sym (number-floating (u .save) g ∙ u .number ∙ e);
                 wrong = missing-or-doubled (count (storeWord (u .save)) ws) (u .not-once);
-                earlier = λ v i l. right v i (f .before (numberOf v) (omega arith) (omega (arith, l, e)));
+                earlier = λ v i l. right v i (f .before (numberOf v) (omega arith) (omega (arith, before-less v (u .save) (numbered v i .1) l, u .number)));
               }
 
       is-first : (k : ℕ) → FirstWrong saves ws k → firstWrong saves ws ≡ k
       is-first k f = by (first-from so 0 64)
         where
+          called : numberOf (f .save) ≡ k
+          called = at (f .save .float) refl
+            where
+              at : (b : Bool) → f .save .float ≡ b → numberOf (f .save) ≡ k
+              at true e = sym (number-floating (f .save) e) ∙ sym (f .floating e)
+              at false e = sym (number-general (f .save) e) ∙ sym (f .general e)
+
           not-once : count (storeWord (f .save)) ws ≡ 1 → ⊥
           not-once e = at (f .wrong)
             where
@@ -175,17 +225,17 @@ module _ (F : ℕ) (saves : List Save) where
               at (inr z) = omega (arith, z, e)
 
           seen : so k ≡ false → ⊥
-          seen e = not-once (right (f .save) (f .named) (ap so (f .number) ∙ e))
+          seen e = not-once (right (f .save) (f .named) (ap so called ∙ e))
 
           by : Found → firstWrong saves ws ≡ k
-          by (inl h) = absurd (seen (h .1 k (omega arith) (omega (arith, f .number, numbers (f .save) (f .named) .1))))
+          by (inl h) = absurd (seen (h .1 k (omega arith) (omega (arith, called, numbers (f .save) (f .named) .1))))
           by (inr h) = at (decLt (firstWrong saves ws) k) (decLt k (firstWrong saves ws))
             where
               u : Wrong saves ws (firstWrong saves ws)
               u = wrong (firstWrong saves ws) (h .is-so)
 
               at : Dec (firstWrong saves ws < k) → Dec (k < firstWrong saves ws) → firstWrong saves ws ≡ k
-              at (yes l) d = absurd (u .not-once (f .earlier (u .save) (u .named) (omega (arith, u .number, l))))
+              at (yes l) d = absurd (u .not-once (f .earlier (u .save) (u .named) (less-before (u .save) (f .save) (numbered (f .save) (f .named) .1) (omega (arith, u .number, called, l)))))
               at (no n) (yes l) = absurd (seen (h .before k (omega arith) l))
               at (no n) (no m) = omega arith
 
@@ -210,9 +260,7 @@ module _ (F : ℕ) (saves : List Save) where
         }
           where
             once : (v : Save) → Among v saves → count (storeWord v) rest ≡ 1
-            once v i =
-                sym (count-other (storeWord v) (lowering F) rest (store-no-addiu v F)) ∙ ap (count (storeWord v)) (sym e) ∙ count-instructions (storeWord v) ws (store-nonzero v)
-                ∙ first-none q v i
+            once v i = sym (count-stored v rest e) ∙ first-none q v i
 
         prologue-opened : IsPrologue F saves ws → Opened F stores (instructions ws)
         prologue-opened p = by (ℕ-discrete F 0)
@@ -224,10 +272,7 @@ module _ (F : ℕ) (saves : List Save) where
                 framed n (q .0) (q .1) (λ w i. let v = q .2 .each w i in subst (λ (x : ℕ). Among x stores) (sym (v .2)) (among-map storeWord (v .0) saves (v .1)))
 
         prologue-once : IsPrologue F saves ws → (v : Save) → Among v saves → count (storeWord v) ws ≡ 1
-        prologue-once p v i =
-            let q = p .framed (none v i) in
-            sym (count-instructions (storeWord v) ws (store-nonzero v)) ∙ ap (count (storeWord v)) (q .1) ∙ count-other (storeWord v) (lowering F) (q .0) (store-no-addiu v F)
-            ∙ q .2 .once v i
+        prologue-once p v i = let q = p .framed (none v i) in count-stored v (q .0) (q .1) ∙ q .2 .once v i
 
         pub names : Names F saves ws (verdictOn F saves ws)
         names = by (is-opened F stores (instructions ws))

@@ -16,7 +16,7 @@ unfoldable pub count : ℕ → List ℕ → ℕ
 count w [] = 0
 count w (x ∷ xs) = cond (eqb x w) 1 0 + count w xs
 
--- "with 00000000 anywhere": the other words, in order.
+-- "with 00000000 anywhere": the words that are not 00000000, in order.
 unfoldable pub instructions : List ℕ → List ℕ
 instructions [] = []
 instructions (w ∷ ws) = cond (eqb w 0) (instructions ws) (w ∷ instructions ws)

@@ -3,7 +3,8 @@
 use mathlib.Core.Path.{_≡_}
 use mathlib.Core.Logic.{_⊎_, _↔_}
 use mathlib.Core.List.{List, [], _∷_, _++_}
-use Prim.Native.Nat.{ℕ, _%_, _<_, _≤_}
+use mathlib.Core.Bool.{true, false}
+use Prim.Native.Nat.{ℕ, _+_, _%_, _<_, _≤_}
 use lib.ListN.{length}
 use Rattle.device.specs.declared.Device.{Device}
 use Rattle.machine.specs.Machine.{State, Runs}
@@ -13,7 +14,7 @@ use Rattle.frame.specs.Frame.{refusalOf, frameOf}
 use Rattle.frame.specs.Words.{Save, savesOf, storeWord, lowering, prologueWords, epilogueWords}
 use Rattle.frame.specs.Keeping.{wordsIn, Ready, Entry, Keeps}
 use Rattle.prologues.specs.declared.Verdict.{Verdict}
-use Rattle.prologues.specs.Checking.{count, instructions, numberOf, codeMost, refusedWith, judged}
+use Rattle.prologues.specs.Checking.{count, instructions}
 
 -- x is one of these.
 abbrev pub Among : {A : Type 0} → A → List A → Type 0
@@ -43,16 +44,21 @@ pub data Foreign (F : ℕ) (saves : List Save) (ws : List ℕ) : Type 0 where
   -- doubled
   doubled : (F ≡ 0 → ⊥) → 1 < count (lowering F) ws → Foreign F saves ws
   -- or behind a store".
-  late : (F ≡ 0 → ⊥) → (before : List ℕ) (v : Save) (after : List ℕ) → ws ≡ before ++ storeWord v ∷ after → Among v saves → Among (lowering F) after → Foreign F saves ws
+  late : (F ≡ 0 → ⊥) → (before : List ℕ) (v : Save) (after : List ℕ) → ws ≡ before ++ (storeWord v ∷ after) → Among v saves → Among (lowering F) after → Foreign F saves ws
 
--- Register k is "the first register whose store is missing or doubled, general registers by number before floating ones as 32 plus
--- number".
+-- The order of registers: "general registers by number before floating ones".
+pub data Before (u v : Save) : Type 0 where
+  kind : u .float ≡ false → v .float ≡ true → Before u v
+  number : u .float ≡ v .float → u .number < v .number → Before u v
+
+-- k names "the first register whose store is missing or doubled", a general one by its number, "floating ones as 32 plus number".
 pub record FirstWrong (saves : List Save) (ws : List ℕ) (k : ℕ) : Type 0 where
   pub save : Save
   pub named : Among save saves
-  pub number : numberOf save ≡ k
+  pub general : save .float ≡ false → k ≡ save .number
+  pub floating : save .float ≡ true → k ≡ 32 + save .number
   pub wrong : (count (storeWord save) ws ≡ 0) ⊎ (1 < count (storeWord save) ws)
-  pub earlier : (v : Save) → Among v saves → numberOf v < k → count (storeWord v) ws ≡ 1
+  pub earlier : (v : Save) → Among v saves → Before v save → count (storeWord v) ws ≡ 1
 
 -- Each verdict is given exactly on its condition, 255 "in preference".
 pub record Names (F : ℕ) (saves : List Save) (ws : List ℕ) (verdict : ℕ) : Type 0 where
@@ -64,7 +70,7 @@ pub record Names (F : ℕ) (saves : List Save) (ws : List ℕ) (verdict : ℕ) :
 -- ---- the machine
 
 -- The same registers, floating registers and memory, and both in a delay slot of the same jump or in none: "program counter aside".
-pub record SameAside (t u : State) : Type 0 where
+pub record SameExceptPc (t u : State) : Type 0 where
   pub reg : t .reg ≡ u .reg
   pub freg : t .freg ≡ u .freg
   pub mem : t .mem ≡ u .mem
@@ -74,21 +80,25 @@ pub record SameAside (t u : State) : Type 0 where
 abbrev pub LeavesAsOurs : Request → List ℕ → List ℕ → Type 0
 LeavesAsOurs r theirs ours =
     (code code′ : ℕ → ℕ) (s : State) → Entry (frameOf r) s → Ready code theirs s → Ready code′ ours s
-    → Runs code (wordsIn theirs) s (λ t. Runs code′ (wordsIn ours) s (λ u. SameAside t u))
+    → Runs code (wordsIn theirs) s (λ t. Runs code′ (wordsIn ours) s (λ u. SameExceptPc t u))
 
 -- ---- the check
 
 -- "length no multiple of 4 or above 256 bytes".
 abbrev pub WrongLength : List ℕ → Type 0
-WrongLength code = (length code % 4 ≡ 0 → ⊥) ⊎ (codeMost < length code)
+WrongLength code = (length code % 4 ≡ 0 → ⊥) ⊎ (256 < length code)
+
+-- An answer; its place is 0 always.
+abbrev pub answer : ℕ → ℕ → Verdict
+answer refusal verdict = record { refusal = refusal; place = 0; verdict = verdict }
 
 -- A function checks prologues: demand 1, what each verdict says, what is left on the machine, and that the epilogue's theorem holds
 -- after whatever is accepted; "ours is accepted".
 pub record Checks (check : Device → Request → List ℕ → Verdict) : Type 0 where
-  pub refused : (d : Device) (r : Request) (code : List ℕ) → (refusalOf d r ≡ 0 → ⊥) → check d r code ≡ refusedWith (refusalOf d r)
-  pub miscut : (d : Device) (r : Request) (code : List ℕ) → refusalOf d r ≡ 0 → WrongLength code → check d r code ≡ refusedWith 21
+  pub refused : (d : Device) (r : Request) (code : List ℕ) → (refusalOf d r ≡ 0 → ⊥) → check d r code ≡ answer (refusalOf d r) 0
+  pub wrong-length : (d : Device) (r : Request) (code : List ℕ) → refusalOf d r ≡ 0 → WrongLength code → check d r code ≡ answer 21 0
   pub verdict : (d : Device) (r : Request) (code : List ℕ) → refusalOf d r ≡ 0 → (WrongLength code → ⊥)
-      → (n : ℕ) × (check d r code ≡ judged n) × Names (frameOf r) (savesOf r) (wordsIn code) n
-  pub leaves : (d : Device) (r : Request) (code : List ℕ) → check d r code ≡ judged 0 → LeavesAsOurs r code (bytesOfWords (prologueWords r))
-  pub keeps : (d : Device) (r : Request) (code : List ℕ) → check d r code ≡ judged 0 → Keeps r code (bytesOfWords (epilogueWords r))
-  pub ours : (d : Device) (r : Request) → refusalOf d r ≡ 0 → check d r (bytesOfWords (prologueWords r)) ≡ judged 0
+      → (n : ℕ) × (check d r code ≡ answer 0 n) × Names (frameOf r) (savesOf r) (wordsIn code) n
+  pub leaves : (d : Device) (r : Request) (code : List ℕ) → check d r code ≡ answer 0 0 → LeavesAsOurs r code (bytesOfWords (prologueWords r))
+  pub keeps : (d : Device) (r : Request) (code : List ℕ) → check d r code ≡ answer 0 0 → Keeps r code (bytesOfWords (epilogueWords r))
+  pub ours : (d : Device) (r : Request) → refusalOf d r ≡ 0 → check d r (bytesOfWords (prologueWords r)) ≡ answer 0 0

@@ -7,7 +7,6 @@ use Rattle.frame.specs.Masks.{names}
 use Rattle.frame.specs.Frame.{offsetOfRegister}
 use Rattle.frame.specs.Words.{lowering}
 use Rattle.frame.specs.Keeping.{offsetOfPair}
-use Rattle.prologues.specs.declared.Verdict.{Verdict}
 
 -- The store of general register k, and of floating register n, at its place; 0 where it is not named.
 unfoldable pub generalStore : Request → ℕ → ℕ
@@ -25,6 +24,3 @@ storeOf r k = cond (ltb k 32) (generalStore r k) (floatingStore r (k - 32))
 -- The first word of a prologue; 0 where there is no frame, and so no word.
 abbrev pub firstWord : ℕ → ℕ
 firstWord F = cond (eqb F 0) 0 (lowering F)
-
-abbrev pub verdictOf : ℕ → ℕ → Verdict
-verdictOf refusal verdict = record { refusal = refusal; place = 0; verdict = verdict }

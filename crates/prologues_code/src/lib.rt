@@ -10,14 +10,16 @@ ghost use Rattle.frame.specs.Words.{savesOf, storeWord};
 ghost use Rattle.frame.specs.Keeping.{wordsIn};
 ghost use Rattle.frame_code.specs.Areas.{Areas};
 ghost use Rattle.prologues.specs.Checking.{areStores, checked, count, firstWrong, instructions, isOpened};
-ghost use Rattle.prologues_code.specs.Stores.{firstWord, floatingStore, generalStore, storeOf, verdictOf};
+ghost use Rattle.prologues.specs.Prologues.{answer};
+ghost use Rattle.prologues_code.specs.Stores.{firstWord, floatingStore, generalStore, storeOf};
 use device::Device;
 use frame::Layout;
 use frame::Request;
 use prologues::Verdict;
 
+// An answer. Its place is 0.
 fn verdict_of(refusal: u32, verdict: u32) -> Verdict
-    ensures { λ r. ⌜ r ≡ verdictOf refusal verdict ⌝ }
+    ensures { λ r. ⌜ r ≡ answer refusal verdict ⌝ }
 {
     Verdict {
         refusal,
@@ -112,10 +114,10 @@ fn first_word(f: u32) -> u32
     if f == 0 { 0 } else { frame_words::lower_sp(f) }
 }
 
-// Whether the first word of code that is not 00000000 is the first word of the prologue, and all after it are stores.
+// Whether the first word of code that is not 00000000 is the first word of the prologue, and all after it are stores and 00000000.
 fn is_opened(request: Request, layout: Layout, code: &[u8], first: u32) -> bool
     requires { ⌜ Areas request layout ⌝ }
-    requires { ⌜ (frameOf request ≤ frameMost) × (first ≡ firstWord (frameOf request)) ⌝ }
+    requires { ⌜ first ≡ firstWord (frameOf request) ⌝ }
     ensures { λ r. ⌜ r ≡ isOpened (frameOf request) (map storeWord (savesOf request)) (instructions (wordsIn (now (code .entry)))) ⌝ }
 {
     let mut at = 0;

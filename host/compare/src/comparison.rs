@@ -2,6 +2,7 @@
 
 mod joins;
 mod plans;
+mod prologues;
 
 use std::ops::RangeInclusive;
 
@@ -119,6 +120,9 @@ impl Comparison {
             }
             for answer in self.coverage.missing_global_pointers(device) {
                 self.fail(|| format!("Frame: no input is answered with $28 {answer:?}"));
+            }
+            for verdict in self.coverage.missing_verdicts(device) {
+                self.fail(|| format!("Check: too few inputs have the verdict {verdict:?}"));
             }
         }
         self.start_group_without_device("coverage");

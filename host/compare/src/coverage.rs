@@ -1,6 +1,7 @@
 //! Which answers the inputs have led to.
 
-use std::fmt::Debug;
+use std::collections::BTreeMap;
+use std::fmt::{self, Debug};
 use std::iter;
 
 use model::{Cause, Layout};
@@ -8,14 +9,17 @@ use o32::Device;
 
 use crate::comparison::DEVICES;
 
-/// Success and the refusals 1 to 20.
-const ANSWERS: usize = 21;
+/// Success and the refusals 1 to 21.
+const ANSWERS: usize = 22;
 
 /// The refusal that only a device without a floating-point unit gives.
 const PAIRS_WITHOUT_UNIT: usize = 14;
 
 /// Fewer inputs than this for a case of joined groups are too few.
 const LEAST_JOINS: u64 = 1_000;
+
+/// And fewer than this for a verdict on code.
+const LEAST_VERDICTS: u64 = 1_000;
 
 /// The answers to a list whose signature is asked for.
 const SIGNATURE_ANSWERS: [usize; 7] = [0, 1, 2, 3, 4, 5, 7];
@@ -31,10 +35,12 @@ pub enum Operation {
     Frame,
     /// Of a frame: the prologue or the epilogue.
     Code,
+    /// Of a frame: whether code is its prologue.
+    Check,
 }
 
 impl Operation {
-    pub const ALL: [Operation; 7] = [
+    pub const ALL: [Operation; 8] = [
         Operation::MakePlan,
         Operation::Fill,
         Operation::Write,
@@ -42,7 +48,17 @@ impl Operation {
         Operation::Walk,
         Operation::Frame,
         Operation::Code,
+        Operation::Check,
     ];
+
+    /// What is said of an input that isn't refused. Of code it doesn't say yet
+    /// whether it is a prologue.
+    fn success(self) -> &'static str {
+        match self {
+            Operation::Check => "not refused",
+            _ => "accepted",
+        }
+    }
 
     /// The answers that it has on a device, success being 0.
     fn answers(self, device: Device) -> impl Iterator<Item = usize> {
@@ -54,6 +70,7 @@ impl Operation {
             Operation::Walk => &[0, 1, 2, 3, 5, 15, 6, 7, 8],
             Operation::Frame => &[0, 9, 14, 10, 11, 12],
             Operation::Code => &[0, 9, 14, 10, 11, 12, 13],
+            Operation::Check => &[0, 9, 14, 10, 11, 12, 21],
         };
         answers
             .iter()
@@ -104,6 +121,37 @@ impl GlobalPointer {
     }
 }
 
+/// What is said of code that is to be a prologue.
+#[derive(Clone, Copy, PartialEq, Eq, PartialOrd, Ord)]
+pub struct Verdict(u32);
+
+impl Verdict {
+    /// All that there are on a device.
+    fn all(device: Device) -> impl Iterator<Item = Verdict> {
+        let floating = match device {
+            Device::Fpu => 52..64,
+            Device::NoFpu => 0..0,
+        };
+        let general = (16..24).chain([28, 30, 31]);
+        iter::once(0)
+            .chain(general)
+            .chain(floating)
+            .chain([255])
+            .map(Verdict)
+    }
+}
+
+impl Debug for Verdict {
+    fn fmt(&self, f: &mut fmt::Formatter<'_>) -> fmt::Result {
+        match self.0 {
+            0 => write!(f, "accepted"),
+            255 => write!(f, "other words"),
+            register if register < 32 => write!(f, "${register}"),
+            register => write!(f, "$f{}", register - 32),
+        }
+    }
+}
+
 /// How often each answer was expected of one operation.
 #[derive(Clone, Copy, Default)]
 struct Counts([u64; ANSWERS]);
@@ -118,10 +166,10 @@ impl Counts {
         answers.filter(|&answer| self.0[answer] == 0).collect()
     }
 
-    fn text(&self, answers: impl Iterator<Item = usize>) -> String {
+    fn text(&self, success: &str, answers: impl Iterator<Item = usize>) -> String {
         answers
             .map(|answer| match (answer, self.0[answer]) {
-                (0, count) => format!("{count} accepted"),
+                (0, count) => format!("{count} {success}"),
                 (_, count) => format!("{count} refused {answer}"),
             })
             .collect::<Vec<_>>()
@@ -135,6 +183,7 @@ pub struct Coverage {
     seen: [[Counts; DEVICES.len()]; Operation::ALL.len()],
     joins: [[u64; DEVICES.len()]; Join::ALL.len()],
     global_pointers: [[u64; DEVICES.len()]; GlobalPointer::ALL.len()],
+    verdicts: [BTreeMap<Verdict, u64>; DEVICES.len()],
     signatures: Counts,
     /// Of descriptions: success, then each cause of a refusal.
     descriptions: [u64; 1 + Cause::ALL.len()],
@@ -152,7 +201,8 @@ impl Coverage {
 
     /// How often each answer of an operation was expected.
     pub fn text(&self, operation: Operation, device: Device) -> String {
-        self.seen[operation as usize][device as usize].text(operation.answers(device))
+        self.seen[operation as usize][device as usize]
+            .text(operation.success(), operation.answers(device))
     }
 
     /// Counts a case of joined groups.
@@ -195,6 +245,30 @@ impl Coverage {
         cases_text(self.global_pointers(device))
     }
 
+    /// Counts a verdict on code for a request that isn't refused.
+    pub fn count_verdict(&mut self, verdict: u32, device: Device) {
+        let verdicts = &mut self.verdicts[device as usize];
+        *verdicts.entry(Verdict(verdict)).or_default() += 1;
+    }
+
+    /// The verdicts on code with how often each was expected.
+    fn verdicts(&self, device: Device) -> Vec<(Verdict, u64)> {
+        let counts = &self.verdicts[device as usize];
+        Verdict::all(device)
+            .map(|verdict| (verdict, counts.get(&verdict).copied().unwrap_or(0)))
+            .collect()
+    }
+
+    /// The verdicts on code that too few inputs have led to.
+    pub fn missing_verdicts(&self, device: Device) -> Vec<Verdict> {
+        fewer_than(LEAST_VERDICTS, self.verdicts(device))
+    }
+
+    /// How often each verdict on code was expected.
+    pub fn verdicts_text(&self, device: Device) -> String {
+        cases_text(self.verdicts(device))
+    }
+
     /// Counts a list whose signature is asked for.
     pub fn count_signature(&mut self, refusal: u32) {
         self.signatures.count(refusal);
@@ -207,7 +281,8 @@ impl Coverage {
 
     /// How often each answer to such a list was expected.
     pub fn signatures_text(&self) -> String {
-        self.signatures.text(SIGNATURE_ANSWERS.into_iter())
+        self.signatures
+            .text("accepted", SIGNATURE_ANSWERS.into_iter())
     }
 
     /// Counts a description that is refused for a cause, or accepted.

@@ -8,7 +8,7 @@ use crate::comparison::{model_code, Code, Comparison};
 use crate::lists::LONG;
 
 /// `$16` to `$23`, `$28`, `$30` and `$31`.
-const ALL_REGISTERS: u32 = 0xD0FF_0000;
+pub const ALL_REGISTERS: u32 = 0xD0FF_0000;
 const GLOBAL_POINTER: u32 = 1 << 28;
 const RETURN_ADDRESS: u32 = 1 << 31;
 
@@ -83,24 +83,34 @@ fn all_three(comparison: &mut Comparison, request: Request) {
     }
 }
 
+/// Every request of numbers at, below and beyond their limits.
+pub fn requests_at_the_limits() -> impl Iterator<Item = Request> {
+    let masks = || {
+        GENERAL
+            .into_iter()
+            .flat_map(|general| PAIRS.map(|pairs| (general, pairs)))
+    };
+    let areas = || {
+        LOCALS
+            .into_iter()
+            .flat_map(|locals| OUTGOING.map(|outgoing| (locals, outgoing)))
+    };
+    LEAVES.into_iter().flat_map(move |leaf| {
+        areas().flat_map(move |(locals, outgoing)| {
+            masks().map(move |(general, pairs)| Request {
+                leaf,
+                locals,
+                outgoing,
+                general,
+                pairs,
+            })
+        })
+    })
+}
+
 pub fn at_the_limits(comparison: &mut Comparison, _: &mut Rng) {
-    for leaf in LEAVES {
-        for locals in LOCALS {
-            for outgoing in OUTGOING {
-                for general in GENERAL {
-                    for pairs in PAIRS {
-                        let request = Request {
-                            leaf,
-                            locals,
-                            outgoing,
-                            general,
-                            pairs,
-                        };
-                        all_three(comparison, request);
-                    }
-                }
-            }
-        }
+    for request in requests_at_the_limits() {
+        all_three(comparison, request);
     }
 }
 
@@ -134,7 +144,7 @@ pub fn small_masks_and_all_pairs(comparison: &mut Comparison, rng: &mut Rng) {
 }
 
 /// All masks of the registers that may be saved, from none of them upward.
-fn masks_of_saved() -> impl Iterator<Item = u32> {
+pub fn masks_of_saved() -> impl Iterator<Item = u32> {
     // The bits of all other registers are set, so that the carry passes them.
     let next = |&mask: &u32| (mask | !ALL_REGISTERS).checked_add(1);
     std::iter::successors(Some(0), next).map(|mask| mask & ALL_REGISTERS)
@@ -177,7 +187,7 @@ fn random_pairs(rng: &mut Rng, device: Device, limit: usize) -> u32 {
     }
 }
 
-fn random_request(rng: &mut Rng, device: Device) -> Request {
+pub fn random_request(rng: &mut Rng, device: Device) -> Request {
     let wild = rng.percent(15);
     let leaf = rng.percent(40);
     let mut general = rng.word() & ALL_REGISTERS;

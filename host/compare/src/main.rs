@@ -16,6 +16,7 @@ mod images;
 mod joins;
 mod lists;
 mod plans;
+mod prologues;
 mod readers;
 mod report;
 mod signatures;
@@ -147,6 +148,43 @@ const FRAMES: [Group; 5] = [
     ("frame, buffer lengths", frames::buffers),
 ];
 
+const PROLOGUES: [Group; 13] = [
+    ("check_prologue, own prologues", prologues::own),
+    (
+        "check_prologue, as the library writes",
+        prologues::as_written,
+    ),
+    ("check_prologue, any order and zeros", prologues::reordered),
+    (
+        "check_prologue, all short codes of a few words",
+        prologues::of_few_words,
+    ),
+    (
+        "check_prologue, a store missing or doubled",
+        prologues::one_count_wrong,
+    ),
+    (
+        "check_prologue, several missing or doubled",
+        prologues::several_counts_wrong,
+    ),
+    (
+        "check_prologue, addiu missing, doubled or late",
+        prologues::addiu_elsewhere,
+    ),
+    ("check_prologue, other words", prologues::other_words),
+    (
+        "check_prologue, places exchanged",
+        prologues::exchanged_places,
+    ),
+    ("check_prologue, one bit flipped", prologues::flipped_bits),
+    ("check_prologue, noise", prologues::of_noise),
+    ("check_prologue, lengths", prologues::lengths),
+    (
+        "check_prologue, refused requests",
+        prologues::of_refused_requests,
+    ),
+];
+
 /// Groups that run once.
 const SIGNATURES: [Group; 8] = [
     (
@@ -242,7 +280,8 @@ fn run_groups(comparison: &mut Comparison, seed: u64) {
             });
         }
     }
-    for (name, group) in READING_ALONE.into_iter().chain(FRAMES) {
+    let alone = READING_ALONE.into_iter().chain(FRAMES);
+    for (name, group) in alone.chain(PROLOGUES) {
         run_group(comparison, seed, name, group);
     }
     for (name, group) in SIGNATURES.into_iter().chain(DESCRIPTIONS) {
@@ -285,6 +324,10 @@ fn print_answers(coverage: &Coverage) {
         println!(
             "answers compared, {device:?}, $28 of Frame: {}",
             coverage.global_pointers_text(device)
+        );
+        println!(
+            "answers compared, {device:?}, verdicts of Check: {}",
+            coverage.verdicts_text(device)
         );
         println!("joined groups, {device:?}: {}", coverage.joins_text(device));
     }

@@ -50,12 +50,12 @@ const OUTGOING_LIMIT: u32 = 1_024;
 const HOMES: u32 = 16;
 
 const ADDIU_SP: u32 = 0x27BD_0000;
-const SWC1: u32 = 0xE7A0_0000;
-const SW: u32 = 0xAFA0_0000;
+pub(crate) const SWC1: u32 = 0xE7A0_0000;
+pub(crate) const SW: u32 = 0xAFA0_0000;
 const LWC1: u32 = 0xC7A0_0000;
 const LW: u32 = 0x8FA0_0000;
 const JR_RA: u32 = 0x03E0_0008;
-const NOP: u32 = 0;
+pub(crate) const NOP: u32 = 0;
 
 /// Lays out a frame.
 pub fn frame(device: Device, request: Request) -> Layout {
@@ -100,7 +100,7 @@ fn check(device: Device, request: &Request) -> Result<(), Refusal> {
     refuse_if(request.outgoing > outgoing_limit, Refusal::OUTGOING)
 }
 
-fn lay_out(device: Device, request: &Request) -> Result<Layout, Refusal> {
+pub(crate) fn lay_out(device: Device, request: &Request) -> Result<Layout, Refusal> {
     // No sum before the limits hold: the numbers come from anyone.
     check(device, request)?;
     let build = if request.leaf {
@@ -128,7 +128,7 @@ fn lay_out(device: Device, request: &Request) -> Result<Layout, Refusal> {
 
 /// Registers with the offsets of the words that they are saved in, one behind
 /// the other from the start of their area.
-fn with_offsets(
+pub(crate) fn with_offsets(
     registers: impl Iterator<Item = u32>,
     area: u32,
 ) -> impl Iterator<Item = (u32, u32)> {
@@ -166,7 +166,7 @@ fn write_epilogue(device: Device, request: &Request, code: &mut [u8]) -> Result<
 }
 
 /// `addiu $sp,$sp,amount`; the amount is at most 17,504 either way.
-fn adjust_sp(amount: u32) -> u32 {
+pub(crate) fn adjust_sp(amount: u32) -> u32 {
     ADDIU_SP | amount & 0xFFFF
 }
 
@@ -198,8 +198,7 @@ impl<'a> Code<'a> {
 
     /// One instruction for each saved word, from the lowest offset upward.
     fn put_saves(&mut self, request: &Request, layout: &Layout, floating: u32, general: u32) {
-        let pairs = bits(request.pairs).flat_map(|k| [20 + 2 * k, 21 + 2 * k]);
-        self.put_each(floating, pairs, layout.floating);
+        self.put_each(floating, floating_registers(request.pairs), layout.floating);
         self.put_each(general, bits(request.general), layout.general);
     }
 
@@ -209,8 +208,13 @@ impl<'a> Code<'a> {
     }
 }
 
+/// The registers of the pairs in a mask, lowest first.
+pub(crate) fn floating_registers(pairs: u32) -> impl Iterator<Item = u32> {
+    bits(pairs).flat_map(|k| [20 + 2 * k, 21 + 2 * k])
+}
+
 /// The numbers of the bits that are set, lowest first.
-fn bits(mask: u32) -> impl Iterator<Item = u32> {
+pub(crate) fn bits(mask: u32) -> impl Iterator<Item = u32> {
     let without_lowest = |&mask: &u32| Some(mask & (mask - 1)).filter(|&rest| rest != 0);
     std::iter::successors(Some(mask).filter(|&mask| mask != 0), without_lowest)
         .map(|mask| mask.trailing_zeros())

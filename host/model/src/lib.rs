@@ -4,6 +4,7 @@
 //! the same answers, written from the rules alone. Every operation checks
 //! first and writes into the caller's buffer only when nothing refuses.
 
+mod checker;
 mod description;
 mod frame;
 mod image;
@@ -14,6 +15,7 @@ mod plan;
 mod records;
 mod walker;
 
+pub use checker::{check_prologue, Verdict};
 pub use description::{cause_of_refusal, describe, Cause, Structure};
 pub use frame::{epilogue, frame, prologue, Layout, Request};
 pub use image::{read, write};
@@ -88,6 +90,7 @@ impl Refusal {
     pub(crate) const PAIRS_WITHOUT_UNIT: u32 = 14;
     pub(crate) const NO_MARKER: u32 = 15;
     pub(crate) const PLAN_DIFFERS: u32 = 20;
+    pub(crate) const CODE_LENGTH: u32 = 21;
 
     pub(crate) fn at(number: u32, place: usize, argument: u32) -> Self {
         Refusal {

@@ -9,8 +9,9 @@
 //! [`walk`] takes the arguments behind an ellipsis from an image, as the
 //! called routine does. [`layout`] lays out a routine's stack frame;
 //! [`prologue`] and [`epilogue`] write the instructions that set it up and take
-//! it down. [`describe`] gives the size, the alignment and the kind of a
-//! structure from a description of its members.
+//! it down, and [`check_prologue`] says whether instructions of another compiler
+//! set it up likewise. [`describe`] gives the size, the alignment and the kind
+//! of a structure from a description of its members.
 //!
 //! Any bytes, numbers and buffer lengths may be given: what can't be done is
 //! refused with its [`Refusal`], and then the buffer keeps every byte. On
@@ -125,13 +126,15 @@ extern crate std;
 mod plan;
 pub mod raw;
 mod refusal;
+mod verdict;
 
 pub use plan::{Placement, Plan};
 pub use refusal::Refusal;
+pub use verdict::Verdict;
 
 /// The version of the library's interface that this crate is written for, as
 /// `O32_VERSION` in C.
-pub const VERSION: u32 = 5;
+pub const VERSION: u32 = 6;
 
 /// Bytes of the longest list that is accepted.
 pub const LIST_MAX: usize = 1057;
@@ -153,6 +156,9 @@ pub const PROLOGUE_MAX: usize = 96;
 
 /// Bytes of the longest epilogue.
 pub const EPILOGUE_MAX: usize = 100;
+
+/// The most bytes of code that [`check_prologue`] looks at.
+pub const CHECKED_MAX: usize = 256;
 
 /// The board that a call or a frame is for.
 #[derive(Clone, Copy, Debug, PartialEq, Eq, Hash)]
@@ -565,6 +571,65 @@ pub fn epilogue(device: Device, request: Request, code: &mut [u8]) -> Result<&[u
     check_version();
     let length = length_of(raw::epilogue(device, request.into(), code))?;
     Ok(&code[..length])
+}
+
+/// Says whether `code` is a prologue for a request.
+///
+/// It is one exactly if its words, big-endian, are the `addiu` of [`prologue`],
+/// once and before all stores; the store that `prologue` has for each register
+/// that the request names, both of a pair, once and in any order; and 00000000,
+/// any number of times and anywhere. For a frame of no bytes the words are
+/// 00000000, or there are none. Such code leaves memory and registers as that of
+/// `prologue` does.
+///
+/// Hand over the prologue alone, up to its last store: a word of the body behind
+/// it is another word. Refuses 9 to 12, 14 and 21.
+///
+/// ```
+/// use o32::{Device, Refusal, Request, Verdict};
+///
+/// fn main() -> Result<(), Refusal> {
+///     // A routine that calls others, saves $16 and has one word of locals.
+///     let request = Request {
+///         leaf: false,
+///         locals: 4,
+///         general: 1 << 16 | 1 << 31,
+///         ..Request::default()
+///     };
+///     let check = |words: &[u32]| {
+///         let code: Vec<u8> = words.iter().flat_map(|word| word.to_be_bytes()).collect();
+///         o32::check_prologue(Device::Fpu, request, &code)
+///     };
+///
+///     // The stores the other way round, and a no-operation between them.
+///     let verdict = check(&[0x27BD_FFE0, 0xAFBF_0014, 0, 0xAFB0_0010])?;
+///     assert!(verdict.is_accepted());
+///
+///     // Without the store of $16.
+///     let verdict = check(&[0x27BD_FFE0, 0xAFBF_0014])?;
+///     assert_eq!(verdict, Verdict::General(16));
+///     assert_eq!(
+///         verdict.to_string(),
+///         "the store of $16 is missing or doubled (verdict 16)"
+///     );
+///
+///     // Both are stored, but at other places.
+///     let verdict = check(&[0x27BD_FFE0, 0xAFB0_0018, 0xAFBF_001C])?;
+///     assert_eq!(verdict, Verdict::OtherWords);
+///
+///     // More words than are looked at.
+///     assert_eq!(check(&[0; 65]), Err(Refusal::CodeLength));
+///     Ok(())
+/// }
+/// ```
+#[inline]
+pub fn check_prologue(device: Device, request: Request, code: &[u8]) -> Result<Verdict, Refusal> {
+    check_version();
+    let answer = raw::check_prologue(device, request.into(), code);
+    match answer.refusal {
+        0 => Ok(Verdict::of(answer.verdict)),
+        number => Err(Refusal::of(number, answer.place, 0)),
+    }
 }
 
 /// The size, the alignment and the kind of a structure from its description.

@@ -54,6 +54,23 @@ pub struct Layout {
     pub gp: u32,
 }
 
+/// What is answered to code that is to be a frame's prologue.
+///
+/// The code is a prologue only if both `refusal` and `verdict` are 0.
+#[must_use = "the code may be no prologue"]
+#[repr(C)]
+#[derive(Clone, Copy, Debug, Default, PartialEq, Eq)]
+pub struct Verdict {
+    /// 0 if the code was looked at, otherwise the number of the refusal.
+    pub refusal: u32,
+    /// Always 0.
+    pub place: u32,
+    /// 0 for a prologue of the request, and on a refusal; 16 to 31 for a general
+    /// register and 52 to 63 for a floating one, less 32, whose store is missing
+    /// or is there more than once; 255 for other words.
+    pub verdict: u32,
+}
+
 /// What is answered to a description of a structure.
 ///
 /// `size`, `alignment` and `kind` are 0 on a refusal.
@@ -90,7 +107,7 @@ pub struct Request {
 }
 
 mod capi {
-    use super::{Answer, Layout, Structure};
+    use super::{Answer, Layout, Structure, Verdict};
 
     extern "C" {
         pub fn o32_version() -> u32;
@@ -178,6 +195,17 @@ mod capi {
             code: *mut u8,
             code_len: usize,
         ) -> Answer;
+
+        pub fn o32_check_prologue(
+            device: u32,
+            leaf: u32,
+            locals: u32,
+            outgoing: u32,
+            general: u32,
+            pairs: u32,
+            code: *const u8,
+            code_len: usize,
+        ) -> Verdict;
 
         pub fn o32_describe(description: *const u8, description_len: usize) -> Structure;
     }
@@ -364,6 +392,31 @@ pub fn epilogue(device: Device, request: Request, code: &mut [u8]) -> Answer {
             general,
             pairs,
             code.as_mut_ptr(),
+            code.len(),
+        )
+    }
+}
+
+/// Says whether `code` is a prologue for a frame.
+#[inline]
+pub fn check_prologue(device: Device, request: Request, code: &[u8]) -> Verdict {
+    let Request {
+        leaf,
+        locals,
+        outgoing,
+        general,
+        pairs,
+    } = request;
+    // SAFETY: the pointer is valid for reads of the length that goes with it.
+    unsafe {
+        capi::o32_check_prologue(
+            device as u32,
+            leaf,
+            locals,
+            outgoing,
+            general,
+            pairs,
+            code.as_ptr(),
             code.len(),
         )
     }

@@ -18,12 +18,12 @@ use core::fmt;
 /// | 6 | read, walk | [`ImageLength`](Self::ImageLength) | | |
 /// | 7 | fill, signature, write, read, walk | [`ShortOutput`](Self::ShortOutput) | | |
 /// | 8 | read, walk | [`NoPromotion`](Self::NoPromotion) | yes | yes |
-/// | 9 | layout, prologue, epilogue | [`Masks`](Self::Masks) | | |
-/// | 10 | layout, prologue, epilogue | [`ReturnAddressNotSaved`](Self::ReturnAddressNotSaved) | | |
-/// | 11 | layout, prologue, epilogue | [`Locals`](Self::Locals) | | |
-/// | 12 | layout, prologue, epilogue | [`Outgoing`](Self::Outgoing) | | |
+/// | 9 | layout, prologue, epilogue, check_prologue | [`Masks`](Self::Masks) | | |
+/// | 10 | layout, prologue, epilogue, check_prologue | [`ReturnAddressNotSaved`](Self::ReturnAddressNotSaved) | | |
+/// | 11 | layout, prologue, epilogue, check_prologue | [`Locals`](Self::Locals) | | |
+/// | 12 | layout, prologue, epilogue, check_prologue | [`Outgoing`](Self::Outgoing) | | |
 /// | 13 | prologue, epilogue | [`ShortCode`](Self::ShortCode) | | |
-/// | 14 | layout, prologue, epilogue | [`PairsWithoutUnit`](Self::PairsWithoutUnit) | | |
+/// | 14 | layout, prologue, epilogue, check_prologue | [`PairsWithoutUnit`](Self::PairsWithoutUnit) | | |
 /// | 15 | walk | [`NoMarker`](Self::NoMarker) | | |
 /// | 16 | describe | [`MalformedDescription`](Self::MalformedDescription) | yes | |
 /// | 17 | describe | [`TooDeep`](Self::TooDeep) | yes | |
@@ -31,12 +31,14 @@ use core::fmt;
 /// | 19 | describe | [`EmptyStructure`](Self::EmptyStructure) | yes | |
 /// | 19 | describe | [`NoKind`](Self::NoKind) | | |
 /// | 20 | fill | [`PlanDiffers`](Self::PlanDiffers) | | |
+/// | 21 | check_prologue | [`CodeLength`](Self::CodeLength) | | |
 ///
 /// Records are checked from left to right, each by 1 to 5 in this order; 20, 15,
 /// 6, 7 and 8 follow in this order when all records have passed. The checks of a
-/// frame are 9, 14, 10, 11, 12 and 13, in this order. The bytes of a description
-/// are checked from left to right, each by 16 to 19 in this order; `NoKind`
-/// follows when all bytes have passed. The first that applies is answered.
+/// frame are 9, 14, 10, 11 and 12, in this order, then 13 where code is written
+/// and 21 where it is checked. The bytes of a description are checked from left
+/// to right, each by 16 to 19 in this order; `NoKind` follows when all bytes have
+/// passed. The first that applies is answered.
 ///
 /// A place is the offset of a kind byte in the list or the signature that was
 /// given, or of a byte in the description. An argument is counted from 1; a
@@ -137,6 +139,8 @@ pub enum Refusal {
     /// 20: a number of the plan isn't the one that the list's signature has on
     /// the device.
     PlanDiffers,
+    /// 21: the length of code to check is no multiple of 4, or above 256 bytes.
+    CodeLength,
     /// A number that this crate has no name for. A later version may have one,
     /// so match it with `_`.
     #[non_exhaustive]
@@ -179,6 +183,7 @@ impl Refusal {
             19 if place == 0 => Refusal::NoKind,
             19 => Refusal::EmptyStructure { place },
             20 => Refusal::PlanDiffers,
+            21 => Refusal::CodeLength,
             _ => Refusal::Unknown {
                 number,
                 place,
@@ -210,6 +215,7 @@ impl Refusal {
             Refusal::MemberBeyondLimit { .. } => 18,
             Refusal::EmptyStructure { .. } | Refusal::NoKind => 19,
             Refusal::PlanDiffers => 20,
+            Refusal::CodeLength => 21,
             Refusal::Unknown { number, .. } => number,
         }
     }
@@ -284,6 +290,7 @@ impl Refusal {
             Refusal::PlanDiffers => {
                 "the plan is not the one of the list's signature on this device"
             }
+            Refusal::CodeLength => "the code's length is no multiple of 4, or above 256 bytes",
             Refusal::Unknown { .. } => "a refusal that this version of the crate does not know",
         }
     }
@@ -312,7 +319,7 @@ mod tests {
 
     #[test]
     fn numbers_are_kept() {
-        for number in 0..=21 {
+        for number in 0..=22 {
             assert_eq!(Refusal::of(number, 7, 3).number(), number);
             assert_eq!(Refusal::of(number, 0, 0).number(), number);
         }

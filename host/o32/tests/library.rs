@@ -2,8 +2,8 @@
 //! buffers that are always enough.
 
 use o32::{
-    raw, Device, Placement, Plan, Refusal, Request, BODIES_MAX, EPILOGUE_MAX, IMAGE_MAX, LIST_MAX,
-    PLAN_WORDS, PROLOGUE_MAX, SIGNATURE_MAX,
+    raw, Device, Placement, Plan, Refusal, Request, Verdict, BODIES_MAX, CHECKED_MAX, EPILOGUE_MAX,
+    IMAGE_MAX, LIST_MAX, PLAN_WORDS, PROLOGUE_MAX, SIGNATURE_MAX,
 };
 
 const DEVICES: [Device; 2] = [Device::Fpu, Device::NoFpu];
@@ -38,6 +38,9 @@ fn refusal_of_request(device: Device, request: Request) -> Refusal {
     let mut code = [0; EPILOGUE_MAX];
     assert_eq!(o32::prologue(device, request, &mut code), Err(refusal));
     assert_eq!(o32::epilogue(device, request, &mut code), Err(refusal));
+    // Before the code is looked at, also at its length.
+    assert_eq!(o32::check_prologue(device, request, &code), Err(refusal));
+    assert_eq!(o32::check_prologue(device, request, &[0; 3]), Err(refusal));
     refusal
 }
 
@@ -758,4 +761,170 @@ fn a_layout_and_the_bytes_behind_a_result() {
     let mut buffer = [0xA5; 50];
     assert_eq!(o32::write(Device::Fpu, &[], &mut buffer).unwrap(), [0; 48]);
     assert_eq!(buffer[48..], [0xA5; 2]);
+}
+
+/// A routine that calls others and saves `$f20`, `$f21`, `$16`, `$28` and `$31`,
+/// with 4 bytes of locals: F = 48.
+const CHECKED: Request = Request {
+    leaf: false,
+    locals: 4,
+    outgoing: 0,
+    general: 1 << 16 | GLOBAL_POINTER | RETURN_ADDRESS,
+    pairs: 1,
+};
+
+const CHECKED_WORDS: [u32; 6] = [
+    0x27BD_FFD0,
+    0xE7B4_0010,
+    0xE7B5_0014,
+    0xAFB0_0018,
+    0xAFBC_001C,
+    0xAFBF_0020,
+];
+
+/// What is said of words as the prologue of that routine.
+#[track_caller]
+fn verdict_on(words: &[u32]) -> Verdict {
+    let code: Vec<u8> = words.iter().flat_map(|word| word.to_be_bytes()).collect();
+    o32::check_prologue(Device::Fpu, CHECKED, &code).unwrap()
+}
+
+#[test]
+fn a_prologue_in_any_order_and_with_zeros() {
+    let [addiu, stores @ ..] = CHECKED_WORDS;
+    assert_eq!(verdict_on(&CHECKED_WORDS), Verdict::Accepted);
+    for turn in 0..stores.len() {
+        let mut turned = stores;
+        turned.rotate_left(turn);
+        let words = [&[0, addiu][..], &turned[..2], &[0, 0], &turned[2..]].concat();
+        assert!(verdict_on(&words).is_accepted());
+        turned.reverse();
+        assert!(verdict_on(&[&[addiu][..], &turned].concat()).is_accepted());
+    }
+}
+
+/// Each store left out, and each doubled.
+#[test]
+fn a_register_that_is_not_stored_once() {
+    let names = [
+        Verdict::Floating(20),
+        Verdict::Floating(21),
+        Verdict::General(16),
+        Verdict::General(28),
+        Verdict::General(31),
+    ];
+    for (name, index) in names.into_iter().zip(1..) {
+        let mut words = CHECKED_WORDS.to_vec();
+        words.push(CHECKED_WORDS[index]);
+        assert_eq!(verdict_on(&words), name);
+        words.retain(|&word| word != CHECKED_WORDS[index]);
+        assert_eq!(verdict_on(&words), name);
+        assert!(!name.is_accepted());
+    }
+    // A general register is named before a floating one.
+    assert_eq!(verdict_on(&CHECKED_WORDS[..1]), Verdict::General(16));
+    assert_eq!(names.map(Verdict::number), [52, 53, 16, 28, 31]);
+}
+
+#[test]
+fn other_words_than_those_of_a_prologue() {
+    let [addiu, stores @ ..] = CHECKED_WORDS;
+    for words in [
+        &[][..],
+        &stores,
+        &[&stores[..], &[addiu]].concat(),
+        &[&[addiu, addiu][..], &stores].concat(),
+        &[&[addiu][..], &stores, &[0x0200_2021]].concat(),
+        // `$31` is missing as well, and stored at another place.
+        &[&[addiu][..], &stores[..4], &[0xAFBF_0024]].concat(),
+    ] {
+        let verdict = verdict_on(words);
+        assert_eq!((verdict, verdict.number()), (Verdict::OtherWords, 255));
+        assert_eq!(
+            verdict.to_string(),
+            "other words than the request's, or no addiu once and first (verdict 255)"
+        );
+    }
+    // One bit of each word flipped.
+    for index in 0..CHECKED_WORDS.len() {
+        for bit in 0..32 {
+            let mut words = CHECKED_WORDS;
+            words[index] ^= 1 << bit;
+            assert_eq!(verdict_on(&words), Verdict::OtherWords);
+        }
+    }
+}
+
+/// What the library writes for a frame is a prologue for it.
+#[test]
+fn the_own_prologue_is_accepted() {
+    for (device, pairs) in [(Device::Fpu, 63), (Device::NoFpu, 0)] {
+        for leaf in [false, true] {
+            let request = Request {
+                leaf,
+                locals: 16_384,
+                general: ALL_REGISTERS,
+                pairs,
+                ..Request::default()
+            };
+            let mut buffer = [0; CHECKED_MAX];
+            let prologue = o32::prologue(device, request, &mut buffer).unwrap();
+            assert_eq!(
+                o32::check_prologue(device, request, prologue),
+                Ok(Verdict::Accepted)
+            );
+            // With no-operations behind it, up to the most that is looked at.
+            assert_eq!(
+                o32::check_prologue(device, request, &buffer),
+                Ok(Verdict::Accepted)
+            );
+            let verdict = o32::check_prologue(device, request, &buffer[4..]);
+            assert_eq!(verdict, Ok(Verdict::OtherWords));
+        }
+    }
+}
+
+/// A frame of no bytes has no `addiu`, not even of 0.
+#[test]
+fn a_prologue_of_no_frame() {
+    let request = Request {
+        leaf: true,
+        ..Request::default()
+    };
+    let addiu = [0x27, 0xBD, 0, 0];
+    for (code, verdict) in [
+        (&[][..], Verdict::Accepted),
+        (&[0; CHECKED_MAX], Verdict::Accepted),
+        (&addiu, Verdict::OtherWords),
+    ] {
+        for device in DEVICES {
+            assert_eq!(o32::check_prologue(device, request, code), Ok(verdict));
+        }
+    }
+}
+
+#[test]
+fn a_length_that_code_does_not_have() {
+    assert_eq!(CHECKED_MAX, 256);
+    let code = [0; CHECKED_MAX + 5];
+    for length in 0..code.len() {
+        let request = Request {
+            leaf: true,
+            ..Request::default()
+        };
+        let answer = o32::check_prologue(Device::Fpu, request, &code[..length]);
+        if length % 4 == 0 && length <= CHECKED_MAX {
+            assert_eq!(answer, Ok(Verdict::Accepted));
+        } else {
+            assert_eq!(answer, Err(Refusal::CodeLength));
+        }
+        let raw = raw::check_prologue(Device::Fpu, request.into(), &code[..length]);
+        let refusal = answer.err().map_or(0, |refusal| refusal.number());
+        assert_eq!((raw.refusal, raw.place, raw.verdict), (refusal, 0, 0));
+    }
+    assert_parts(Refusal::CodeLength, 21, None, None);
+    assert_eq!(
+        Refusal::CodeLength.to_string(),
+        "the code's length is no multiple of 4, or above 256 bytes (refusal 21)"
+    );
 }

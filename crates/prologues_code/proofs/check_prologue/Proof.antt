@@ -3,12 +3,11 @@
 use mathlib.Core.Path.{_≡_, sym, ap, _∙_}
 use mathlib.Core.Bool.{false}
 use mathlib.Core.Logic.{⊎-elim}
-use native.Mathlib.Omega.{arith}
 use borrow.Author.Needs.{needs}
 use borrow.Author.Tests.{not-true, not-false}
 use Rattle.frame_code.proofs.Answers.{Laid, laid, refusal-is}
 use Rattle.prologues.specs.Checking.{hasWrongLength, refusedWith, judged}
-use Rattle.prologues.proofs.Answers.{length-uneven, length-above, length-right, verdict-other, verdict-first, checked-refused, checked-miscut, checked-judged}
+use Rattle.prologues.proofs.Answers.{length-uneven, length-above, length-right, verdict-other, verdict-first, checked-refused, checked-length, checked-judged}
 use Rattle.prologues_code.specs.Stores.{firstWord}
 use Rattle.prologues_code.proofs.check_prologue.Statement.{statement}
 use Rattle.prologues_code.proofs.check_prologue.Tie as tie
@@ -35,7 +34,7 @@ returns-2 : tie.Need-returns-2
 returns-2 c =
     let s = c .before .before .before .before .before .args .code .now in
     c .verdict-of2 .ensures
-    ∙ sym (checked-miscut _ _ _ (accepted-layout (c .before .before) .accepted)
+    ∙ sym (checked-length _ _ _ (accepted-layout (c .before .before) .accepted)
     (⊎-elim (λ w. length-uneven s (w .taken)) (λ w. length-above s (w .0 .left) (w .1 .taken)) (c .before .if2 .came)))
 
 first-word-requires : tie.Need-first-word-requires
@@ -44,7 +43,7 @@ first-word-requires c κs = accepted-layout (c .before .before) .frame-le
 is-opened-requires : tie.Need-is-opened-requires
 is-opened-requires c κs =
     let o = accepted-layout (c .before .before .before) in
-    (o .areas, (omega (arith, o .frame, o .frame-le), c .first-word .ensures ∙ ap firstWord (o .frame)))
+    (o .areas, c .first-word .ensures ∙ ap firstWord (o .frame))
 
 verdict-of-requires-3 : tie.Need-verdict-of-requires-3
 verdict-of-requires-3 c κs = search needs

@@ -40,7 +40,7 @@ first-is c =
 
 returns : tie.Need-returns Inv-loop μ-loop
 returns c =
-    let first = c .before .before .before .before .before .before .pre .1 .1 in
+    let first = c .before .before .before .before .before .before .pre .1 in
     sym (ap (isOpened _ _) (first-is (c .before)) ∙ opened-no _ _ _ _ (c .before .if1 .taken) (λ e. c .if2 .taken (e ∙ sym first)))
 
 has-only-stores-requires : tie.Need-has-only-stores-requires Inv-loop μ-loop
@@ -48,7 +48,7 @@ has-only-stores-requires c κs = (c .before .before .before .before .before .bef
 
 returns-2 : tie.Need-returns-2 Inv-loop μ-loop
 returns-2 c =
-    let first = c .before .before .before .before .before .before .before .pre .1 .1 in
+    let first = c .before .before .before .before .before .before .before .pre .1 in
     c .has-only-stores .ensures
     ∙ sym (ap (isOpened _ _) (first-is (c .before .before)) ∙ opened-yes _ _ _ _ (c .before .before .if1 .taken) (c .before .if2 .left ∙ first))
 
@@ -64,7 +64,7 @@ loop-again c =
 returns-3 : tie.Need-returns-3 Inv-loop μ-loop
 returns-3 c =
     let l = c .before .loop in
-    rw (c .before .before .before .pre .1 .1) (opened-none _ _) ∙ ap (isOpened _ _) (sym (instructions-end _ (l .at) (omega arith)) ∙ l .inv .1)
+    rw (c .before .before .before .pre .1) (opened-none _ _) ∙ ap (isOpened _ _) (sym (instructions-end _ (l .at) (omega arith)) ∙ l .inv .1)
 
 pub is-opened-spec : {M : Type 1} → statement M
 is-opened-spec =
