@@ -20,8 +20,7 @@ use Rattle.o32.specs.declared.State.{State}
 use Rattle.o32.specs.O32.{O32, image_size}
 use Rattle.o32_laws.proofs.Bounds.{Numbers, refusal_bound, scan_bound, reading_long}
 use Rattle.answers.specs.declared.Answer.{Answer}
-use Rattle.varargs.specs.Walking.{walked, walk_scan, walk_into}
-use Rattle.varargs.specs.Walking as V
+use Rattle.varargs.specs.Walking.{walked, marked, walk_scan, walk_into}
 use Rattle.varargs.proofs.Bodies.{walked_long, bodies_most}
 use Rattle.carried.specs.Carried.{kinds}
 use Rattle.plans.specs.Plans.{plan_of, numbers, make_into, fill_into, signature_into}
@@ -33,11 +32,8 @@ use Rattle.descriptions.specs.declared.Structure.{Structure}
 use Rattle.descriptions.specs.Describing.{described}
 use Rattle.descriptions.specs.Descriptions.{place_most}
 use Rattle.descriptions.proofs.Places.{place_bound, small_numbers}
-use Rattle.unprototyped.specs.declared.Edition.{Edition}
-use Rattle.unprototyped.specs.Unprototyped.{Unprototyped, agreed, copies_agree, marked, read_unprototyped, unmarked, write_unprototyped}
-use Rattle.unprototyped.proofs.Twins.{Usual, usual, stopped_alike}
-use Rattle.c_numbers.specs.declared.O32Answer.{O32Answer}
-use Rattle.c_numbers.specs.Numbers.{narrow}
+use Rattle.capi.specs.declared.O32Answer.{O32Answer}
+use Rattle.capi.specs.Numbers.{narrow}
 use Rattle.frame_code.proofs.Longest.{code_place_zero, longest}
 
 -- of an answer as the code hands it on, and as the definitions give it
@@ -106,58 +102,14 @@ read_bounded d sig img room (complete L last) e = image_bounded d sig img room L
 pub read_fits : {a : Answer} (d : Device) (sig img : List ℕ) (room : ℕ) → a ≡ answer_of (read_into (O32 d) sig img room) → Fits a
 read_fits d sig img room e = fits (read_into (O32 d) sig img room) (read_bounded d sig img room (scan (O32 d) false sig) refl) e
 
--- ---- calls without a prototype
-
-write-unprototyped_bounded : (d : Device) (e : Edition) (list : List ℕ) (room : ℕ) → Bounded (write_unprototyped d e list room)
-write-unprototyped_bounded d e list room = go (scan (Unprototyped d e) true list) refl
-  where
-    written : (L : List Placed) (last : State) → scan (Unprototyped d e) true list ≡ complete L last → Bounded (write_into (Unprototyped d e) list room)
-    written L last f =
-        let u : Usual d e true list L last = usual d e true list L last f in
-        let x : List ℕ = image (image_size last.end) L list in
-        rw f (room_bounded 7 room (length x) (done x) (omega (arith, image-length (image_size last.end) L list, (scan_bound d true list u.placed last u.scanned).fits)))
-
-    either : (t : Bool) → Bounded (write_into (Unprototyped d e) list room) → Bounded (cond t (refused 22 0 0) (write_into (Unprototyped d e) list room))
-    either true h = nowhere
-    either false h = h
-
-    go : (q : Scan State) → scan (Unprototyped d e) true list ≡ q → Bounded (resolve q (λ L st. unmarked true list (write_into (Unprototyped d e) list room)))
-    go (stopped r at j) f = refusal_bound d true list r at j ((stopped_alike d e true list r at j).0 f)
-    go (complete L last) f = either (marked true list) (written L last f)
-
-pub write-unprototyped_fits : {a : Answer} (d : Device) (e : Edition) (list : List ℕ) (room : ℕ) → a ≡ answer_of (write_unprototyped d e list room) → Fits a
-write-unprototyped_fits d e list room f = fits (write_unprototyped d e list room) (write-unprototyped_bounded d e list room) f
-
-read-unprototyped_bounded : (d : Device) (e : Edition) (sig img : List ℕ) (room : ℕ) → Bounded (read_unprototyped d e sig img room)
-read-unprototyped_bounded d e sig img room = go (scan (Unprototyped d e) false sig) refl
-  where
-    tested : (t : Bool) (x : List ℕ) → length x ≤ 1057 → Bounded (cond t (done x) (refused 23 0 0))
-    tested true x h = h
-    tested false x h = nowhere
-
-    agreeing : (L : List Placed) (o : Outcome) → Bounded o → Bounded (agreed L img o)
-    agreeing L (refused r at j) h = h
-    agreeing L (done x) h = tested (copies_agree L img) x h
-
-    either : (t : Bool) (x : Outcome) → Bounded x → Bounded (cond t (refused 22 0 0) x)
-    either true x h = nowhere
-    either false x h = h
-
-    go : (q : Scan State) → scan (Unprototyped d e) false sig ≡ q → Bounded (resolve q (λ L st. unmarked false sig (agreed L img (read_into (O32 d) sig img room))))
-    go (stopped r at j) f = refusal_bound d false sig r at j ((stopped_alike d e false sig r at j).0 f)
-    go (complete L last) f = either (marked false sig) (agreed L img (read_into (O32 d) sig img room)) (agreeing L (read_into (O32 d) sig img room) (read_bounded d sig img room (scan (O32 d) false sig) refl))
-
-pub read-unprototyped_fits : {a : Answer} (d : Device) (e : Edition) (sig img : List ℕ) (room : ℕ) → a ≡ answer_of (read_unprototyped d e sig img room) → Fits a
-read-unprototyped_fits d e sig img room f = fits (read_unprototyped d e sig img room) (read-unprototyped_bounded d e sig img room) f
-
 -- ---- the walker
 
 walk_bounded : (d : Device) (sig img : List ℕ) (room : ℕ) (q : Scan State) → scan (O32 d) false sig ≡ q
     → Bounded (walk_scan d (check_room 7 room) sig img q)
 walk_bounded d sig img room (stopped r at j) e = refusal_bound d false sig r at j e
-walk_bounded d sig img room (complete L last) e = go (V.marked sig) refl
+walk_bounded d sig img room (complete L last) e = go (marked sig) refl
   where
-    go : (t : Bool) → V.marked sig ≡ t → Bounded (cond t (check_image (O32 d) (check_room 7 room) img L last (walked sig img)) (refused 15 0 0))
+    go : (t : Bool) → marked sig ≡ t → Bounded (cond t (check_image (O32 d) (check_room 7 room) img L last (walked sig img)) (refused 15 0 0))
     go true m = image_bounded d sig img room L last (walked sig img) e (λ h. omega (arith, walked_long d sig e m img h, bodies_most d sig e m))
     go false m = nowhere
 

@@ -1,4 +1,4 @@
--- Demands 1 and 3, with a prototype and without, and what holds of the walker, of plans, of descriptions and of the check of prologues, of what the functions for C
+-- Demands 1 and 3, and what holds of the walker, of plans, of descriptions and of the check of prologues, of what the functions for C
 -- answer and leave in their buffers, for every device number.
 -- Assumes nothing.
 use mathlib.Core.Path.{◌≡◌, refl}
@@ -9,10 +9,6 @@ use Rattle.o32_laws.specs.Refusing.{Refusals}
 use Rattle.o32_laws.specs.Demand.{Demand}
 use Rattle.o32_laws.proofs.Refusals.{refusals}
 use Rattle.o32_laws.proofs.Demand.{demand}
-use Rattle.unprototyped.specs.Refusing as U
-use Rattle.unprototyped.specs.Demand as D
-use Rattle.unprototyped.proofs.Refusals as U
-use Rattle.unprototyped.proofs.Demand as D
 use Rattle.varargs.specs.Varargs.{Walks}
 use Rattle.varargs.proofs.Theorem.{walker}
 use Rattle.plans.specs.Pair.{Pairs, Demands}
@@ -21,8 +17,7 @@ use Rattle.descriptions.specs.Descriptions.{Describes}
 use Rattle.descriptions.proofs.Theorem.{described_right}
 use Rattle.prologues.specs.Prologues.{Checks}
 use Rattle.prologues.proofs.Theorem.{checks}
-use Rattle.c_numbers.specs.Numbers.{device_of, edition_of}
-use Rattle.capi.specs.Functions.{functions_for_c, unprototyped_for_c, walker_for_c, pair_for_c, describer_for_c, checker_for_c}
+use Rattle.capi.specs.Numbers.{device_of, functions_for_c, walker_for_c, pair_for_c, describer_for_c, checker_for_c}
 
 -- A case, computed: the empty list into a buffer of 49 bytes has an image of 48.
 pub empty_for_c : ((functions_for_c 0).write [] (replicate 49 0xC5)).length ≡ 48
@@ -33,12 +28,6 @@ refusals_for_c device = refusals (device_of device)
 
 pub demand_for_c : (device : ℕ) → Demand (functions_for_c device) (device_of device)
 demand_for_c device = demand (device_of device)
-
-pub refusals-unprototyped_for_c : (device edition : ℕ) → U.Refusals (unprototyped_for_c device edition) (device_of device) (edition_of edition)
-refusals-unprototyped_for_c device edition = unprototyped-refusals (device_of device) (edition_of edition)
-
-pub demand_unprototyped_for_c : (device edition : ℕ) → D.Demand (unprototyped_for_c device edition) (device_of device) (edition_of edition)
-demand_unprototyped_for_c device edition = unprototyped-demand (device_of device) (edition_of edition)
 
 pub walker_for_c_lem : (device : ℕ) → Walks (functions_for_c device) (walker_for_c device) (device_of device)
 walker_for_c_lem device = walker (device_of device)

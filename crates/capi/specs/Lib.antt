@@ -1,1 +1,1 @@
-pub mod Functions
+pub mod Numbers

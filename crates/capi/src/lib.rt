@@ -1,27 +1,133 @@
 // The proved functions for C. A slice is a pointer and a length there; each answer is a struct of 32-bit numbers, by value.
-ghost use Rattle.std.specs.Prelude.{◌≡◌, length};
+ghost use Rattle.std.specs.Prelude.{◌≡◌, ◌≤◌, length};
 ghost use Rattle.o32.specs.O32.{O32};
 ghost use Rattle.answers.specs.Outcomes.{answer_of, buffer_of};
 ghost use Rattle.carried.specs.Convention.{read_into, write_into};
 ghost use Rattle.device.specs.declared.Device.{Device};
 ghost use Rattle.varargs.specs.Walking.{walk_into};
-ghost use Rattle.unprototyped.specs.Unprototyped.{read_unprototyped, write_unprototyped};
 ghost use Rattle.plans.specs.Plans.{fill_into, make_into, signature_into};
 ghost use Rattle.descriptions.specs.Describing.{described};
+ghost use Rattle.descriptions.specs.Descriptions.{place_most};
 ghost use Rattle.frame.specs.Frame.{layout_of};
 ghost use Rattle.frame_code.specs.Code.{epilogue_into, prologue_into};
 ghost use Rattle.prologues.specs.Checking.{checked};
-ghost use Rattle.c_numbers.specs.Numbers.{device_of, edition_of, layout_numbers, narrow, request_of, structure_numbers, verdict_numbers};
+ghost use Rattle.capi.specs.Numbers.{device_of, layout_numbers, narrow, request_of, structure_numbers, verdict_numbers};
 
-use c_numbers::{O32Answer, O32Layout, O32Structure, O32Verdict};
+use answers::Answer;
+use descriptions::Structure;
+use device::Device;
+use frame::Request;
+
+// A refusal, its place and its argument's number, or 0, 0, 0 and the length of what was written.
+#[repr(C)]
+#[derive(Drop)]
+pub struct O32Answer {
+    pub refusal: u32,
+    pub place: u32,
+    pub argument: u32,
+    pub length: u32,
+}
+
+// A frame: a refusal and all other numbers 0, or 0, 0 and the frame's numbers. `gp_saved` is 1 for yes and 0 for no.
+#[repr(C)]
+#[derive(Drop)]
+pub struct O32Layout {
+    pub refusal: u32,
+    pub place: u32,
+    pub frame: u32,
+    pub build: u32,
+    pub floating: u32,
+    pub general: u32,
+    pub locals: u32,
+    pub gp_saved: u32,
+    pub gp: u32,
+}
+
+// A structure that was described: a refusal, its place and all other numbers 0, or 0, 0 and the structure's numbers.
+#[repr(C)]
+#[derive(Drop)]
+pub struct O32Structure {
+    pub refusal: u32,
+    pub place: u32,
+    pub size: u32,
+    pub alignment: u32,
+    pub kind: u32,
+}
+
+// What is answered for code that is sent as a prologue: a refusal, its place and 0, or 0, 0 and the verdict.
+#[repr(C)]
+#[derive(Drop)]
+pub struct O32Verdict {
+    pub refusal: u32,
+    pub place: u32,
+    pub verdict: u32,
+}
+
+// An answer in 32-bit numbers. No answer has a larger place or length than 1,057, or a larger argument than 33.
+fn narrowed(answer: Answer) -> O32Answer
+    requires { (answer.place ≤ 1057) × (answer.argument ≤ 33) × (answer.length ≤ 1057) }
+    ensures { result ≡ narrow answer }
+{
+    let place = answer.place as u32;
+    let argument = answer.argument as u32;
+    let length = answer.length as u32;
+    O32Answer {
+        refusal: answer.refusal,
+        place,
+        argument,
+        length,
+    }
+}
+
+// A structure in 32-bit numbers. No place is larger than 39,954, however long a description is.
+fn structure_numbers(structure: Structure) -> O32Structure
+    requires { (structure.place ≤ place_most) × (structure.size ≤ 512) × (structure.alignment ≤ 8) }
+    ensures { result ≡ structure_numbers structure }
+{
+    let place = structure.place as u32;
+    let size = structure.size as u32;
+    let alignment = structure.alignment as u32;
+    let kind = structure.kind as u32;
+    O32Structure {
+        refusal: structure.refusal,
+        place,
+        size,
+        alignment,
+        kind,
+    }
+}
+
+// A device as C hands it over.
+fn as_device(number: u32) -> Device
+    ensures { result ≡ device_of number }
+{
+    if number == 0 {
+        Device::Fpu
+    } else {
+        Device::NoFpu
+    }
+}
+
+// A request as C hands it over.
+fn as_request(leaf: u32, locals: u32, outgoing: u32, general: u32, pairs: u32) -> Request
+    ensures { result ≡ request_of leaf locals outgoing general pairs }
+{
+    Request {
+        leaf: leaf != 0,
+        locals,
+        outgoing,
+        general,
+        pairs,
+    }
+}
 
 // The version of this interface, O32_VERSION of include/o32.h. The number rises with every release that changes or adds a struct
 // or a function here.
 #[unsafe(no_mangle)]
 pub extern "C" fn o32_version() -> u32
-    ensures { result ≡ 7 }
+    ensures { result ≡ 6 }
 {
-    7
+    6
 }
 
 // The call image of a list for a device.
@@ -30,8 +136,8 @@ pub extern "C" fn o32_write(device: u32, list: &[u8], image: &mut [u8]) -> O32An
     ensures answer { result ≡ narrow (answer_of (write_into (O32 (device_of device)) list.now (length image.old))) }
     ensures buffer { image.new ≡ buffer_of (write_into (O32 (device_of device)) list.now (length image.old)) image.old }
 {
-    let answer = o32_image::write(c_numbers::as_device(device), list, image);
-    c_numbers::narrowed(answer)
+    let answer = o32_image::write(as_device(device), list, image);
+    narrowed(answer)
 }
 
 // The list of an image under a signature, for a device.
@@ -45,43 +151,8 @@ pub extern "C" fn o32_read(
     ensures answer { result ≡ narrow (answer_of (read_into (O32 (device_of device)) signature.now image.now (length list.old))) }
     ensures buffer { list.new ≡ buffer_of (read_into (O32 (device_of device)) signature.now image.now (length list.old)) list.old }
 {
-    let answer = o32_image::read(c_numbers::as_device(device), signature, image, list);
-    c_numbers::narrowed(answer)
-}
-
-// The call image of a list for a device and an edition, of a call without a prototype.
-#[unsafe(no_mangle)]
-pub extern "C" fn o32_write_unprototyped(
-    device: u32,
-    edition: u32,
-    list: &[u8],
-    image: &mut [u8],
-) -> O32Answer
-    ensures answer { result ≡ narrow (answer_of (write_unprototyped (device_of device) (edition_of edition) list.now (length image.old))) }
-    ensures buffer { image.new ≡ buffer_of (write_unprototyped (device_of device) (edition_of edition) list.now (length image.old)) image.old }
-{
-    let board = c_numbers::as_device(device);
-    let rule = c_numbers::as_edition(edition);
-    let answer = unprototyped_code::write_unprototyped(board, rule, list, image);
-    c_numbers::narrowed(answer)
-}
-
-// The list of an image under a signature, for a device and an edition, of a call without a prototype.
-#[unsafe(no_mangle)]
-pub extern "C" fn o32_read_unprototyped(
-    device: u32,
-    edition: u32,
-    signature: &[u8],
-    image: &[u8],
-    list: &mut [u8],
-) -> O32Answer
-    ensures answer { result ≡ narrow (answer_of (read_unprototyped (device_of device) (edition_of edition) signature.now image.now (length list.old))) }
-    ensures buffer { list.new ≡ buffer_of (read_unprototyped (device_of device) (edition_of edition) signature.now image.now (length list.old)) list.old }
-{
-    let board = c_numbers::as_device(device);
-    let rule = c_numbers::as_edition(edition);
-    let answer = unprototyped_code::read_unprototyped(board, rule, signature, image, list);
-    c_numbers::narrowed(answer)
+    let answer = o32_image::read(as_device(device), signature, image, list);
+    narrowed(answer)
 }
 
 // The bodies of the arguments after the marker, as a routine with an ellipsis takes them from an image, for a device.
@@ -95,8 +166,8 @@ pub extern "C" fn o32_walk(
     ensures answer { result ≡ narrow (answer_of (walk_into (device_of device) signature.now image.now (length bodies.old))) }
     ensures buffer { bodies.new ≡ buffer_of (walk_into (device_of device) signature.now image.now (length bodies.old)) bodies.old }
 {
-    let answer = varargs_code::walk(c_numbers::as_device(device), signature, image, bodies);
-    c_numbers::narrowed(answer)
+    let answer = varargs_code::walk(as_device(device), signature, image, bodies);
+    narrowed(answer)
 }
 
 // The signature of a list.
@@ -106,7 +177,7 @@ pub extern "C" fn o32_signature(list: &[u8], signature: &mut [u8]) -> O32Answer
     ensures buffer { (d : Device) → signature.new ≡ buffer_of (signature_into d list.now (length signature.old)) signature.old }
 {
     let answer = plans_signature::signature_of(list, signature);
-    c_numbers::narrowed(answer)
+    narrowed(answer)
 }
 
 // The plan of a signature for a device, as 98 words.
@@ -115,8 +186,8 @@ pub extern "C" fn o32_make_plan(device: u32, signature: &[u8], plan: &mut [u32])
     ensures answer { result ≡ narrow (answer_of (make_into (device_of device) signature.now (length plan.old))) }
     ensures buffer { plan.new ≡ buffer_of (make_into (device_of device) signature.now (length plan.old)) plan.old }
 {
-    let answer = plans_words::make_plan(c_numbers::as_device(device), signature, plan);
-    c_numbers::narrowed(answer)
+    let answer = plans_words::make_plan(as_device(device), signature, plan);
+    narrowed(answer)
 }
 
 // The call image of a list by a plan of 98 words, for a device. Any words may be given: they are compared, and used for nothing else.
@@ -125,8 +196,8 @@ pub extern "C" fn o32_fill(device: u32, plan: &[u32], list: &[u8], image: &mut [
     ensures answer { result ≡ narrow (answer_of (fill_into (device_of device) plan.now list.now (length image.old))) }
     ensures buffer { image.new ≡ buffer_of (fill_into (device_of device) plan.now list.now (length image.old)) image.old }
 {
-    let answer = plans_words::fill(c_numbers::as_device(device), plan, list, image);
-    c_numbers::narrowed(answer)
+    let answer = plans_words::fill(as_device(device), plan, list, image);
+    narrowed(answer)
 }
 
 // The structure of a description.
@@ -135,7 +206,7 @@ pub extern "C" fn o32_describe(description: &[u8]) -> O32Structure
     ensures { result ≡ structure_numbers (described description.now) }
 {
     let structure = descriptions_code::describe(description);
-    c_numbers::structure_numbers(structure)
+    structure_numbers(structure)
 }
 
 // The frame of a request on a device.
@@ -150,9 +221,20 @@ pub extern "C" fn o32_frame(
 ) -> O32Layout
     ensures { result ≡ layout_numbers (layout_of (device_of device) (request_of leaf locals outgoing general pairs)) }
 {
-    let request = c_numbers::as_request(leaf, locals, outgoing, general, pairs);
-    let layout = frame_code::layout_of(c_numbers::as_device(device), request);
-    c_numbers::layout_numbers(layout)
+    let request = as_request(leaf, locals, outgoing, general, pairs);
+    let layout = frame_code::layout_of(as_device(device), request);
+    let gp_saved = layout.gp_saved as u32;
+    O32Layout {
+        refusal: layout.refusal,
+        place: layout.place,
+        frame: layout.frame,
+        build: layout.build,
+        floating: layout.floating,
+        general: layout.general,
+        locals: layout.locals,
+        gp_saved,
+        gp: layout.gp,
+    }
 }
 
 // The prologue of a request on a device.
@@ -169,9 +251,9 @@ pub extern "C" fn o32_prologue(
     ensures answer { result ≡ narrow (answer_of (prologue_into (device_of device) (request_of leaf locals outgoing general pairs) (length code.old))) }
     ensures buffer { code.new ≡ buffer_of (prologue_into (device_of device) (request_of leaf locals outgoing general pairs) (length code.old)) code.old }
 {
-    let request = c_numbers::as_request(leaf, locals, outgoing, general, pairs);
-    let answer = frame_code::prologue(c_numbers::as_device(device), request, code);
-    c_numbers::narrowed(answer)
+    let request = as_request(leaf, locals, outgoing, general, pairs);
+    let answer = frame_code::prologue(as_device(device), request, code);
+    narrowed(answer)
 }
 
 // The epilogue of a request on a device.
@@ -188,9 +270,9 @@ pub extern "C" fn o32_epilogue(
     ensures answer { result ≡ narrow (answer_of (epilogue_into (device_of device) (request_of leaf locals outgoing general pairs) (length code.old))) }
     ensures buffer { code.new ≡ buffer_of (epilogue_into (device_of device) (request_of leaf locals outgoing general pairs) (length code.old)) code.old }
 {
-    let request = c_numbers::as_request(leaf, locals, outgoing, general, pairs);
-    let answer = frame_code::epilogue(c_numbers::as_device(device), request, code);
-    c_numbers::narrowed(answer)
+    let request = as_request(leaf, locals, outgoing, general, pairs);
+    let answer = frame_code::epilogue(as_device(device), request, code);
+    narrowed(answer)
 }
 
 // Whether code is a prologue for a request on a device, and what is wrong where it is not.
@@ -206,7 +288,11 @@ pub extern "C" fn o32_check_prologue(
 ) -> O32Verdict
     ensures { result ≡ verdict_numbers (checked (device_of device) (request_of leaf locals outgoing general pairs) code.now) }
 {
-    let request = c_numbers::as_request(leaf, locals, outgoing, general, pairs);
-    let verdict = prologues_code::check_prologue(c_numbers::as_device(device), request, code);
-    c_numbers::verdict_numbers(verdict)
+    let request = as_request(leaf, locals, outgoing, general, pairs);
+    let verdict = prologues_code::check_prologue(as_device(device), request, code);
+    O32Verdict {
+        refusal: verdict.refusal,
+        place: verdict.place,
+        verdict: verdict.verdict,
+    }
 }

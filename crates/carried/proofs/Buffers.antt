@@ -123,9 +123,7 @@ module _ (c : Convention) (img : List ℕ) (room : ℕ) where
   past_signature L st = go (read_scan c (check_room 7 room) img (complete L st)) (read_late L st)
     where
       go : (a : Outcome) → Late a → PastSignature (answer_of a).refusal
-      go (refused r at j) (inl e) = inr (inl e)
-      go (refused r at j) (inr (inl e)) = inr (inr (inl e))
-      go (refused r at j) (inr (inr e)) = inr (inr (inr (inl e)))
+      go (refused r at j) h = inr h
       go (done x) h = inl refl
 
   -- where no refusal by record is 0, none is

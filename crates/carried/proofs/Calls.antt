@@ -1,13 +1,12 @@
 -- The carried-bytes theorem, of what the reader and the writer of a convention answer and leave in buffers that are long enough.
 -- Assumes nothing.
-use mathlib.Core.Path.{◌≡◌, refl, sym, ap, ◌∙◌, subst}
+use mathlib.Core.Path.{◌≡◌, refl, sym, ap, ◌∙◌}
 use mathlib.Core.Logic.{◌↔◌}
 use mathlib.Core.List.{List, []}
-use mathlib.Core.Bool.{Bool, true, false}
+use mathlib.Core.Bool.{false}
 use Prim.Native.Nat.{ℕ, ◌≤◌}
 use native.Mathlib.Omega.{arith}
-use lib.ListN.{length, get_or}
-use lib.Dec.{ltb}
+use lib.ListN.{length}
 use Rattle.answers.specs.Outcomes.{done, answer_of, check_room}
 use Rattle.carried.specs.Image.{reading, Placed, carried, image, length_of_list}
 use Rattle.carried.specs.Convention.{Convention, Scan, stopped, complete, scan, read_scan, write, read, read_into, write_into}
@@ -18,7 +17,7 @@ use Rattle.carried.proofs.Wholeness.{scan_reading}
 use Rattle.carried.proofs.Theorem.{theorem}
 use Rattle.carried.proofs.RoundTrip.{round_trip}
 use Rattle.carried.proofs.Readings.{done_inj, reading_length}
-use Rattle.carried.specs.Calls.{Result, Functions, functions_of, output, PastSignature, AcceptedSignature, LentBuffers, Accepts, reading_of, rewrite, rewriting_of_lem, AcceptedImages}
+use Rattle.carried.specs.Calls.{Functions, functions_of, output, PastSignature, AcceptedSignature, LentBuffers, Accepts, reading_of, rewriting_of_lem, AcceptedImages}
 use Rattle.carried.proofs.Buffers.{written_is, read_is, answered-length, output_done, accepted_done, past_signature, read_numbered}
 use Rattle.words.proofs.Impossible.{impossible}
 
@@ -42,83 +41,6 @@ images_as {f} {sig} {m} {n} {m'} {n'} {P} {Q} e g same w = record {
   where
     lent : LentBuffers m' n' → LentBuffers m n
     lent u = record { list = u.list; image = u.image; list_long = omega (arith, u.list_long); image_long = omega (arith, u.image_long) }
-
--- ---- functions that answer alike wherever they accept an image, so that what is proved of one holds of the other
-
--- f accepts the images that g accepts, and reads them so; and it writes what it has read as g does
-pub record Alike (f g : Functions) (sig : List ℕ) : Type 0 where
-  pub accepts : (a out : List ℕ) → ((f.read sig a out).refusal ≡ 0) ↔ ((g.read sig a out).refusal ≡ 0)
-  pub reads : (a out : List ℕ) → (f.read sig a out).refusal ≡ 0 → f.read sig a out ≡ g.read sig a out
-  pub writes : (a lent out : List ℕ) → (f.read sig a lent).refusal ≡ 0 → f.write (output (g.read sig a lent)) out ≡ g.write (output (g.read sig a lent)) out
-
-module _ {f g : Functions} {sig : List ℕ} {m n : ℕ} {P : ℕ → Type 0} (same : Alike f g sig) (w : AcceptedImages g sig m n P) where
-  there : (u : LentBuffers m n) (a : List ℕ) → Accepts f sig u a → Accepts g sig u a
-  there u a = (same.accepts a u.list).0
-
-  back : (u : LentBuffers m n) (a : List ℕ) → Accepts g sig u a → Accepts f sig u a
-  back u a = (same.accepts a u.list).1
-
-  reading_alike : (u : LentBuffers m n) (a : List ℕ) → Accepts f sig u a → reading_of f sig u a ≡ reading_of g sig u a
-  reading_alike u a h = ap output (same.reads a u.list h)
-
-  rewrite_alike : (u : LentBuffers m n) (a : List ℕ) → Accepts f sig u a → rewrite f sig u a ≡ rewrite g sig u a
-  rewrite_alike u a h = ap (λ (x : List ℕ). f.write x u.image) (reading_alike u a h) ∙ same.writes a u.list u.image h
-
-  rewriting_alike : (u : LentBuffers m n) (a : List ℕ) → Accepts f sig u a → rewriting_of_lem f sig u a ≡ rewriting_of_lem g sig u a
-  rewriting_alike u a h = ap output (rewrite_alike u a h)
-
-  -- f accepts the rewriting
-  again : (u v : LentBuffers m n) (a : List ℕ) → Accepts f sig u a → Accepts f sig v (rewriting_of_lem f sig u a)
-  again u v a h = subst (Accepts f sig v) (sym (rewriting_alike u a h)) (back v (rewriting_of_lem g sig u a) (w.accepted_again u v a (there u a h)))
-
-  rereads : (u v : LentBuffers m n) (a : List ℕ) → Accepts f sig u a → reading_of f sig v (rewriting_of_lem f sig u a) ≡ reading_of f sig u a
-  rereads u v a h =
-      reading_alike v (rewriting_of_lem f sig u a) (again u v a h)
-      ∙ ap (reading_of g sig v) (rewriting_alike u a h)
-      ∙ w.reads_the_same u v a (there u a h)
-      ∙ sym (reading_alike u a h)
-
-  rewrites_again : (u v : LentBuffers m n) (a : List ℕ) → Accepts f sig u a → rewriting_of_lem f sig v (rewriting_of_lem f sig u a) ≡ rewriting_of_lem f sig u a
-  rewrites_again u v a h =
-      rewriting_alike v (rewriting_of_lem f sig u a) (again u v a h)
-      ∙ ap (rewriting_of_lem g sig v) (rewriting_alike u a h)
-      ∙ w.fixed_point u v a (there u a h)
-      ∙ sym (rewriting_alike u a h)
-
-  pub images_alike : AcceptedImages f sig m n P
-  images_alike = record {
-    some_accepted = λ u. let s = w.some_accepted u in (s.0, back u s.0 s.1);
-    same_in_all_buffers = λ u v a h.
-        let s = w.same_in_all_buffers u v a (there u a h) in
-        (back v a s.0, reading_alike u a h ∙ s.1 ∙ sym (reading_alike v a (back v a s.0)));
-    read_same = λ u v a b h k.
-        let s = w.read_same u v a b (there u a h) (there v b k) in
-        ((λ e. s.0 (sym (reading_alike u a h) ∙ e ∙ reading_alike v b k)), λ x. reading_alike u a h ∙ s.1 x ∙ sym (reading_alike v b k));
-    rewrites = λ u a h. ap (λ (r : Result). r.refusal) (rewrite_alike u a h) ∙ w.rewrites u a (there u a h);
-    rewriting_length = λ u a h.
-        let s = w.rewriting_length u a (there u a h) in
-        (ap (λ (r : Result). r.length) (rewrite_alike u a h) ∙ s.0, ap length (rewriting_alike u a h) ∙ s.1);
-    keeps_carried = λ u a h p q. ap (λ (x : List ℕ). get_or x p 0) (rewriting_alike u a h) ∙ w.keeps_carried u a (there u a h) p q;
-    zero_elsewhere = λ u a h p q. ap (λ (x : List ℕ). get_or x p 0) (rewriting_alike u a h) ∙ w.zero_elsewhere u a (there u a h) p q;
-    accepted_again = again;
-    reads_the_same = rereads;
-    fixed_point = rewrites_again;
-    same_rewriting = λ u v a b h k.
-        let s = w.same_rewriting u v a b (there u a h) (there v b k) in (
-          (λ e. reading_alike u a h ∙ s.0 (sym (rewriting_alike u a h) ∙ e ∙ rewriting_alike v b k) ∙ sym (reading_alike v b k)),
-          λ e. rewriting_alike u a h ∙ s.1 (sym (reading_alike u a h) ∙ e ∙ reading_alike v b k) ∙ sym (rewriting_alike v b k),
-        );
-  }
-
--- ---- a list that the writer accepts, and its image
-
-pub written_output : (c : Convention) (list out : List ℕ) (L : List Placed) (last : c.State) → scan c true list ≡ complete L last → ((functions_of c).write list out).refusal ≡ 0
-    → output ((functions_of c).write list out) ≡ image (c.image_length last) L list
-written_output c list out L last e h = go (ltb (length out) (length (image (c.image_length last) L list))) refl
-  where
-    go : (t : Bool) → ltb (length out) (length (image (c.image_length last) L list)) ≡ t → output ((functions_of c).write list out) ≡ image (c.image_length last) L list
-    go true f = let z : ◌≡◌ {A = ℕ} 7 0 = rw (e, f) at h in absurd (omega arith)
-    go false f = (output_done (image (c.image_length last) L list) out (write_into c list (length out)) (rw (e, f) refl)).1
 
 -- the refusals of a signature are none of those that come after
 abbrev pub Early : Convention → Type 0

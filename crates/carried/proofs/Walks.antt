@@ -1,12 +1,12 @@
 -- What each step of a convention must give, and what follows for a whole signature: each record's bytes are new, and inside the image.
 -- Assumes nothing.
-use mathlib.Core.Path.{◌≡◌, refl, sym, ap, ap₂, ◌∙◌, subst}
+use mathlib.Core.Path.{◌≡◌, refl, sym, ap, ap₂, subst}
 use mathlib.Core.List.{List, [], ◌∷◌, ◌++◌}
 use mathlib.Core.Bool.{Bool, true, false}
 use Prim.Native.Nat.{ℕ, suc, ◌≤◌, ◌<◌}
 use native.Mathlib.Omega.{arith}
-use lib.ListN.{length, length-append}
-use Rattle.words.specs.Words.{Extension, zeros, again, promote}
+use lib.ListN.{length}
+use Rattle.words.specs.Words.{promote}
 use Rattle.carried.specs.Image.{Placed, carried}
 use Rattle.carried.specs.Convention.{Step, refuse, next, Convention, Scan, stopped, complete, prepend, body_length, scan_from, scan}
 use Rattle.places.specs.Places.{In, Distinct}
@@ -25,25 +25,6 @@ pub record StepLaws (c : Convention) (Free : c.State → ℕ → Type 0) (st : c
   pub keeps : (p : ℕ) → Free st' p → Free st p
   pub inside : (p : ℕ) → In p s.carriers → p < c.image_length st'
   pub grows : c.image_length st ≤ c.image_length st'
-
--- a body that is there twice: at these bytes and at those, which are not the same ones
-pub twice_lawful : {c : Convention} {Free : c.State → ℕ → Type 0} {st st' : c.State} {k j n : ℕ} {e : Extension} (ps qs : List ℕ) → e ≡ zeros 0
-    → StepLaws c Free st k (record { kind = k; argument = j; size = n; extension = zeros 0; carriers = ps }) st'
-    → StepLaws c Free st k (record { kind = k; argument = j; size = n; extension = e; carriers = qs }) st'
-    → ((p : ℕ) → In p ps → In p qs → ⊥)
-    → StepLaws c Free st k (record { kind = k; argument = j; size = n; extension = again; carriers = ps ++ qs }) st'
-twice_lawful ps qs z v w apart = record {
-  kind = refl;
-  sized = λ b x.
-      let y : length b ≡ length qs = rw z at (w.sized b x) in
-      length-append b b ∙ omega (arith, v.sized b x, y, length-append ps qs);
-  apart = distinct_append ps qs v.apart w.apart apart;
-  free = λ p i. in_cases ps qs p i (v.free p) (w.free p);
-  used = λ p i f. in_cases ps qs p i (λ m. v.used p m f) (λ m. w.used p m f);
-  keeps = v.keeps;
-  inside = λ p i. in_cases ps qs p i (v.inside p) (w.inside p);
-  grows = v.grows;
-}
 
 abbrev pub StepLawful : (c : Convention) → (c.State → ℕ → Type 0) → c.State → ℕ → Step c.Placement c.State → Type 0
 StepLawful c Free st k (refuse r j) = Unit {0}

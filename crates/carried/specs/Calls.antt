@@ -32,9 +32,9 @@ functions_of c = record {
   write = λ list out. result_of (answer_of (write_into c list (length out))) (buffer_of (write_into c list (length out)) out);
 }
 
--- Success, or a refusal of the image (6, 8, 23) or of the buffer (7).
+-- Success, or a refusal of the image (6, 8) or of the buffer (7).
 abbrev pub PastSignature : ℕ → Type 0
-PastSignature r = (r ≡ 0) ⊎ (r ≡ 6) ⊎ (r ≡ 7) ⊎ (r ≡ 8) ⊎ (r ≡ 23)
+PastSignature r = (r ≡ 0) ⊎ (r ≡ 6) ⊎ (r ≡ 7) ⊎ (r ≡ 8)
 
 -- "a signature is accepted when none of the reader's checks on signatures refuses it": the reader answers one of these, whatever the
 -- image and the buffer.

@@ -18,10 +18,6 @@ device_of line = cond (slice_index line 0 == 110) NoFpu Fpu
 abbrev pub letter_of : List ℕ → ℕ
 letter_of line = cond (slice_index line 0 == 110 && nat_lt 1 (length line)) (slice_index line 1) (slice_index line 0)
 
--- The last letter of a line's word: the byte before its first space, or a space where there is none.
-abbrev pub last_letter_of : List ℕ → ℕ
-last_letter_of line = cond (place_of 32 line == 0) 32 (slice_index line (place_of 32 line - 1))
-
 -- The value of a hex digit in upper case; 16 where it is none.
 abbrev pub digit_of : ℕ → ℕ
 digit_of c = cond (nat_le 48 c && nat_le c 57) (c - 48) (cond (nat_le 65 c && nat_le c 70) (c - 55) 16)

@@ -1,7 +1,7 @@
 // The lines of a text of cases, and the numbers and bytes in them.
 ghost use Rattle.std.specs.Prelude.{◌≡◌, ◌+◌, ◌<◌, ◌≤◌, ◌⊎◌, length, drop};
 ghost use Rattle.std.proofs.Math.Seq.{paste};
-ghost use Rattle.case_input.specs.Lines.{device_of, digit_of, field, field_length, last_letter_of, letter_of, number_at, number_of, place_of, require_digit, room_of, series, series_at, series_by_sign, series_of};
+ghost use Rattle.case_input.specs.Lines.{device_of, digit_of, field, field_length, letter_of, number_at, number_of, place_of, require_digit, room_of, series, series_at, series_by_sign, series_of};
 ghost use Rattle.text.specs.Text.{stored};
 
 use device::Device;
@@ -224,15 +224,4 @@ pub fn letter(line: &[u8]) -> u8
         return first;
     }
     if line.len() < 2 { first } else { line[1] }
-}
-
-// The last letter of a line's word: the byte before its first space, or a space where there is none.
-pub fn last_letter(line: &[u8]) -> u8
-    ensures { result ≡ last_letter_of line.now }
-{
-    let space = find(line, 0, b' ');
-    if space == 0 {
-        return b' ';
-    }
-    line[space - 1]
 }

@@ -1,20 +1,19 @@
-// Runs the cases of a text on standard input, one to a line, and prints what the writer, the reader and the walker answer, with a
-// prototype and without, and what the program `image` prints.
+// Runs the cases of a text on standard input, one to a line, and prints what the writer, the reader and the walker answer, and what
+// the program `image` prints.
 //
 // An empty line, and a line that starts with #, is printed as it is. Any other line is printed with the answer below it:
 //
 //     write ROOM, LIST                the image of a list, in a buffer of ROOM bytes
 //     read ROOM, SIGNATURE, IMAGE     the list of an image under a signature, in a buffer of ROOM bytes
 //     varargs ROOM, SIGNATURE, IMAGE  what a routine with an ellipsis takes from an image, in a buffer of ROOM bytes
-//     write1, write2, read1, read2    the same as write and read, of a call without a prototype, in edition 1 or 2
-//     nwrite, nread1, nvarargs, ..    the same without a floating-point unit
+//     nwrite, nread, nvarargs         the same without a floating-point unit
 //     print LIST                      what the program `image` prints for a list
 //     show LENGTH, BYTES              how an answer of LENGTH bytes is shown, in a buffer that starts with BYTES
 //
 // ROOM and LENGTH are decimal numbers, at most 4,096. LIST, SIGNATURE, IMAGE and BYTES are at most 4,096 bytes, each a pair of hex
 // digits, with spaces between them or none. After a pair, *N makes N equal bytes of it, and +N makes N bytes that count up from it.
-// Of the words write, read, varargs, print and show the first letter decides, after an n the next one; the last letter is a 1, a 2,
-// the s of varargs, or another. A line that has another form is answered "malformed".
+// Of the words write, read, varargs, print and show the first letter decides, after an n the next one. A line that has another form
+// is answered "malformed".
 // Of the text the first 131,072 bytes are read.
 //
 // The answer is the refusal, or the bytes that were written, 16 to a line; then their number, and whether every other byte of
@@ -24,24 +23,14 @@ ghost use Rattle.std.specs.Prelude.{◌≤◌, length};
 use answers::Answer;
 use device::Device;
 use libc::{STDIN_FILENO, STDOUT_FILENO};
-use unprototyped::Edition;
 
 // The answer to a line that has another form.
 fn malformed() {
     io::write_all(STDOUT_FILENO, b"malformed\n");
 }
 
-// The writer that the last letter of a word names.
-fn write_by(device: Device, letter: u8, list: &[u8], out: &mut [u8]) -> Answer {
-    match letter {
-        b'1' => unprototyped_code::write_unprototyped(device, Edition::One, list, out),
-        b'2' => unprototyped_code::write_unprototyped(device, Edition::Two, list, out),
-        _ => plans_writer::write_by_plan(device, list, out),
-    }
-}
-
-// That writer, of the list from a place of a line on.
-fn run_write(device: Device, letter: u8, room: usize, line: &[u8], from: usize)
+// The writer, of the list from a place of a line on.
+fn run_write(device: Device, room: usize, line: &[u8], from: usize)
     requires { room ≤ 4096 }
 {
     let mut list = io::buffer();
@@ -50,31 +39,35 @@ fn run_write(device: Device, letter: u8, room: usize, line: &[u8], from: usize)
         return malformed();
     }
     let mut out = case_output::fresh_buffer();
-    let answer = write_by(device, letter, &list[..n], &mut out[..room]);
+    let answer = plans_writer::write_by_plan(device, &list[..n], &mut out[..room]);
     case_output::print_answer(answer, &out);
 }
 
-// The reader that the last letter of a word names, or the walker.
-fn read_by(device: Device, letter: u8, signature: &[u8], image: &[u8], out: &mut [u8]) -> Answer {
-    match letter {
-        b'1' => unprototyped_code::read_unprototyped(device, Edition::One, signature, image, out),
-        b'2' => unprototyped_code::read_unprototyped(device, Edition::Two, signature, image, out),
-        b's' => varargs_code::walk(device, signature, image, out),
-        _ => o32_image::read(device, signature, image, out),
+// The walker or the reader, of a signature and an image.
+fn walk_or_read(
+    device: Device,
+    walks: bool,
+    signature: &[u8],
+    image: &[u8],
+    out: &mut [u8],
+) -> Answer {
+    if walks {
+        return varargs_code::walk(device, signature, image, out);
     }
+    o32_image::read(device, signature, image, out)
 }
 
-// What it answers, with a buffer of so many bytes.
-fn print_read(device: Device, letter: u8, room: usize, signature: &[u8], image: &[u8])
+// What the one or the other answers, with a buffer of so many bytes.
+fn print_walk_or_read(device: Device, walks: bool, room: usize, signature: &[u8], image: &[u8])
     requires { room ≤ 4096 }
 {
     let mut out = case_output::fresh_buffer();
-    let answer = read_by(device, letter, signature, image, &mut out[..room]);
+    let answer = walk_or_read(device, walks, signature, image, &mut out[..room]);
     case_output::print_answer(answer, &out);
 }
 
-// That reader, of the signature from a place of a line to a comma, and the image after it.
-fn run_read(device: Device, letter: u8, room: usize, line: &[u8], from: usize)
+// The walker or the reader, of the signature from a place of a line to a comma, and the image after it.
+fn run_walk_or_read(device: Device, walks: bool, room: usize, line: &[u8], from: usize)
     requires room_bound { room ≤ 4096 }
     requires from_in_bounds { from ≤ length line.now }
 {
@@ -92,7 +85,7 @@ fn run_read(device: Device, letter: u8, room: usize, line: &[u8], from: usize)
     if m > 4096 {
         return malformed();
     }
-    print_read(device, letter, room, &signature[..n], &image[..m]);
+    print_walk_or_read(device, walks, room, &signature[..n], &image[..m]);
 }
 
 // What the program `image` prints for the list after the first space of a line.
@@ -135,12 +128,11 @@ fn run(line: &[u8])
     if room.value > 4096 {
         return malformed();
     }
-    let last = case_input::last_letter(line);
     match word {
-        b'r' => run_read(device, last, room.value, line, room.end),
+        b'r' => run_walk_or_read(device, false, room.value, line, room.end),
         b's' => run_show(room.value, line, room.end),
-        b'v' => run_read(device, b's', room.value, line, room.end),
-        b'w' => run_write(device, last, room.value, line, room.end),
+        b'v' => run_walk_or_read(device, true, room.value, line, room.end),
+        b'w' => run_write(device, room.value, line, room.end),
         _ => malformed(),
     }
 }

@@ -119,10 +119,8 @@ Numbers (s ∷ L) = (s.argument ≤ 33) × Numbers L
 -- n bytes that are accepted, their records, and the state after them
 pub record Reached (n : ℕ) (L : List Placed) (last : State) : Type 0 where
   pub long : n ≤ 1057
-  pub within : n ≤ last.end + last.prefix.count + cond last.prefix.marked 1 0
   pub numbers : Numbers L
   pub fits : last.end ≤ 1024
-  pub few : last.prefix.count ≤ 32
 
 -- the place and the argument of a refusal, or the bytes of what is accepted
 abbrev Reaches : ℕ → Scan State → Type 0
@@ -142,17 +140,11 @@ after-le false n = omega arith
 
 prepend_reaches : (n m : ℕ) (s : Placed) (q : Scan State) → n ≡ m → s.argument ≤ 33 → Reaches n q → Reaches m (prepend s q)
 prepend_reaches n m s (stopped r p j) e a h = h
-prepend_reaches n m s (complete L last) e a h = record {
-  long = omega (arith, h.long);
-  within = omega (arith, h.within);
-  numbers = (a, h.numbers);
-  fits = h.fits;
-  few = h.few;
-}
+prepend_reaches n m s (complete L last) e a h = record { long = omega (arith, h.long); numbers = (a, h.numbers); fits = h.fits }
 
 reaches : (d : Device) (bodies : Bool) (l : List ℕ) (at n : ℕ) (st : State) → Held at n st → Reaches (at + length l) (scan_from (O32 d) bodies at st n l)
 reaches d bodies = by_records (O32 d) bodies (λ at n st l q. Held at n st → Reaches (at + length l) q)
-    (λ at n st h. record { long = omega (arith, held_place at n st h); within = omega (arith, h.before); numbers = tt; fits = h.fits; few = h.few }) pass stop join
+    (λ at n st h. record { long = omega (arith, held_place at n st h); numbers = tt; fits = h.fits }) pass stop join
   where
     named : (st : State) (k r j : ℕ) → Stops (O32 d) bodies st k r j → j ≤ st.prefix.count + 1
     named st k r j (by_step e) = step_grows d st k e
@@ -184,12 +176,9 @@ module _ (d : Device) (bodies : Bool) (l : List ℕ) where
   pub scan_bound : (L : List Placed) (last : State) → scan (O32 d) bodies l ≡ complete L last → Reached (length l) L last
   scan_bound L last e =
       let w : Reached (0 + length l) L last = subst (Reaches (0 + length l)) e scanned in
-      record { long = omega (arith, w.long); within = omega (arith, w.within); numbers = w.numbers; fits = w.fits; few = w.few }
+      record { long = omega (arith, w.long); numbers = w.numbers; fits = w.fits }
 
 -- a reading is an accepted list
-pub reading_bound : (d : Device) (sig img : List ℕ) (L : List Placed) (last : State) → scan (O32 d) false sig ≡ complete L last → Reached (length (reading L img)) L last
-reading_bound d sig img L last e =
-    scan_bound d true (reading L img) L last (scan_reading (O32 d) (O32-laws d) (walk_of (O32 d) (O32-laws d) sig start L last 0 e) img 0)
-
 pub reading_long : (d : Device) (sig img : List ℕ) (L : List Placed) (last : State) → scan (O32 d) false sig ≡ complete L last → length (reading L img) ≤ 1057
-reading_long d sig img L last e = (reading_bound d sig img L last e).long
+reading_long d sig img L last e =
+    (scan_bound d true (reading L img) L last (scan_reading (O32 d) (O32-laws d) (walk_of (O32 d) (O32-laws d) sig start L last 0 e) img 0)).long

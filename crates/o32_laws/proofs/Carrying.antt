@@ -1,6 +1,6 @@
 -- The law of carried bytes, for every argument of every accepted signature on every device.
 -- Assumes nothing.
-use mathlib.Core.Path.{◌≡◌, refl, sym, ap, ◌∙◌, subst}
+use mathlib.Core.Path.{◌≡◌, refl, sym, ap, ap₂, ◌∙◌, subst}
 use mathlib.Core.Logic.{◌⊎◌, inl, inr}
 use mathlib.Core.List.{List, [], ◌∷◌, ◌++◌, map}
 use mathlib.Core.Bool.{Bool, true, false, cond, ◌&&◌, and-false}
@@ -30,10 +30,8 @@ use Rattle.kinds.proofs.KindFacts.{kind_facts, structure}
 use Rattle.o32_offsets.proofs.Offsets.{unpromoted_width, float_width}
 use Rattle.o32_laws.proofs.Steps.{Stepped, Describes, describes}
 use Rattle.o32_laws.proofs.Laws.{O32-laws, span, length-span, length_float}
-use Rattle.o32_laws.proofs.Premises.{O32-premises}
 use Rattle.o32_laws.proofs.Runs.{span_below, span_high}
 use Rattle.places.proofs.Runs.{get_or-run}
-use Rattle.passes.proofs.Standing.{after, stands_placed}
 
 -- ---- the state after some kinds
 
@@ -66,26 +64,46 @@ pub late_register : (st : State) → Late st → float_register Fpu st ≡ 0
 late_register st (inl n) = rw (ne_eqb st.prefix.count 0 (λ e. omega arith), ne_eqb st.prefix.count 1 (λ e. omega arith))
 late_register st (inr n) = rw (ne_eqb st.prefix.count 0 (λ e. omega arith), n.1, and-false (eqb st.prefix.count 1 && st.floating))
 
--- ---- the first record of an accepted signature
+-- ---- a walk over an accepted signature, taken apart at its first record
 
-record First (d : Device) (st : State) (k : ℕ) : Type 0 where
+record First (d : Device) (st : State) (k : ℕ) (ks : List ℕ) (L : List Placed) (last : State) : Type 0 where
   number : ℕ
   place : Placement
   after : State
+  rest : List Placed
   step_taken : Stepped d st (kind_of k) number place after
+  records : L ≡ (O32 d).placed_at k number place ∷ rest
+  walk : Walk (O32 d) (O32-laws d) after ks rest last
 
-first : {d : Device} {st : State} {k : ℕ} {ks : List ℕ} {L : List Placed} {last : State} → Walk (O32 d) (O32-laws d) st (k ∷ ks) L last → First d st k
-first {d} {st} (one {st' = st'} {k = k} {j = j} {p = p} e f w) = record { number = j; place = p; after = st'; step_taken = subst (Describes d st (kind_of k)) e (describes d st (kind_of k)) }
+first : {d : Device} {st : State} {k : ℕ} {ks : List ℕ} {L : List Placed} {last : State} → Walk (O32 d) (O32-laws d) st (k ∷ ks) L last → First d st k ks L last
+first {d} {st} (one {st' = st'} {k = k} {j = j} {p = p} {L = L} e f w) = record {
+  number = j;
+  place = p;
+  after = st';
+  rest = L;
+  step_taken = subst (Describes d st (kind_of k)) e (describes d st (kind_of k));
+  records = refl;
+  walk = w;
+}
+
+-- the walk after the first record, from the state that the record leads to
+then : {d : Device} {st : State} {k : ℕ} {ks : List ℕ} {L : List Placed} {last : State} (w : First d st k ks L last) → Walk (O32 d) (O32-laws d) (advance st (kind_of k)) ks w.rest last
+then {d = d} {ks = ks} {last = last} w = subst (λ (x : State). Walk (O32 d) (O32-laws d) x ks w.rest last) w.step_taken.on w.walk
 
 -- the record of this kind is placed by the state after the kinds before
-reach-same : (d : Device) (ks : List ℕ) (st : State) → after (O32-premises d) st ks ≡ reach st ks
-reach-same d [] st = refl
-reach-same d (k ∷ ks) st = reach-same d ks (advance st (kind_of k))
-
 record_placed : (d : Device) (before : List ℕ) (st : State) (k : ℕ) (after : List ℕ) (L : List Placed) (last : State) → Walk (O32 d) (O32-laws d) st (before ++ (k ∷ after)) L last
     → (M : List Placed) (s : Placed) (N : List Placed) → L ≡ M ++ (s ∷ N) → length M ≡ length before
     → s ≡ (O32 d).placed_at k (argument (reach st before).prefix (kind_of k)) (placement d (reach st before) (kind_of k))
-record_placed d before st k after L last w M s N e h = stands_placed (O32-premises d) before k after st last L w M s N e h ∙ rw (reach-same d before st) refl
+record_placed d [] st k after L last w [] s N e h =
+    let a : First d st k after L last = first w in
+    let i : s ≡ (O32 d).placed_at k a.number a.place = cc a.records in
+    i ∙ ap₂ ((O32 d).placed_at k) a.step_taken.number a.step_taken.at
+record_placed d [] st k after L last w (m ∷ M) s N e h = absurd (omega arith)
+record_placed d (j ∷ before) st k after L last w [] s N e h = absurd (omega arith)
+record_placed d (j ∷ before) st k after L last w (m ∷ M) s N e h =
+    let a : First d st j (before ++ (k ∷ after)) L last = first w in
+    let i : a.rest ≡ M ++ (s ∷ N) = cc a.records in
+    record_placed d before (advance st (kind_of j)) k after a.rest last (then a) M s N i (omega arith)
 
 -- ---- rule 3 by the kinds before
 
@@ -126,12 +144,12 @@ register_by_kinds Fpu (j ∷ i ∷ js) k after L last w =
 
 -- ---- the bytes of a placement, one by one
 
-pub get_or-span : (n o i : ℕ) → i < n → get_or (map carrier (run o n)) i 0 ≡ carrier (o + i)
+get_or-span : (n o i : ℕ) → i < n → get_or (map carrier (run o n)) i 0 ≡ carrier (o + i)
 get_or-span zero o i h = absurd (omega arith)
 get_or-span (suc n) o zero h = let e : o ≡ o + 0 = omega arith in ap carrier e
 get_or-span (suc n) o (suc i) h = let e : suc o + i ≡ o + suc i = omega arith in get_or-span n (suc o) i (omega arith) ∙ ap carrier e
 
-pub carrier_low : (o : ℕ) → o < 16 → carrier o ≡ o
+carrier_low : (o : ℕ) → o < 16 → carrier o ≡ o
 carrier_low o h = rw (lt-ltb o 16 h)
 
 carrier_high : (o : ℕ) → 16 ≤ o → carrier o ≡ 32 + o
@@ -245,8 +263,8 @@ module _ (d : Device) (before : List ℕ) (k j : ℕ) (s : Placed)
     carries_only p (odd h z m g) = rw g (in_register h z 0 i i (omega arith) m (omega arith))
     carries_only p (even h z m g) = let n = float_long h in rw g (in_register h z 1 (i - 4) i (omega arith) (omega arith) (omega arith))
 
-  pub carries_right : CarriedAt d before k s
-  carries_right = record {
+  law : CarriedAt d before k s
+  law = record {
     size = ap (λ (x : Placed). x.size) placed_as;
     promotion = ap (λ (x : Placed). x.extension) placed_as;
     long = carried_long (register_after d before k) refl;
@@ -265,7 +283,7 @@ placed-after d before k after L last ok M s N e h =
 -- and is carried as `CarriedAt` says.
 pub carried-at : (d : Device) (before : List ℕ) (k : ℕ) (after : List ℕ) (L : List Placed) (last : State) → scan (O32 d) false (before ++ (k ∷ after)) ≡ complete L last
     → (M : List Placed) (s : Placed) (N : List Placed) → L ≡ M ++ (s ∷ N) → length M ≡ length before → CarriedAt d before k s
-carried-at d before k after L last ok M s N e h = carries_right d before k _ s (placed-after d before k after L last ok M s N e h)
+carried-at d before k after L last ok M s N e h = law d before k _ s (placed-after d before k after L last ok M s N e h)
 
 -- Request (iii) of document 02: at every accepted signature, on every device, a structure lies in the runs of `InRuns`.
 pub structure_in_runs : (d : Device) (before : List ℕ) (k : ℕ) (after : List ℕ) (L : List Placed) (last : State) → scan (O32 d) false (before ++ (k ∷ after)) ≡ complete L last

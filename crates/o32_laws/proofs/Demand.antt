@@ -3,7 +3,8 @@
 use mathlib.Core.Path.{◌≡◌, refl, sym, ap, ap₂, ◌∙◌, subst}
 use mathlib.Core.Logic.{◌↔◌, inl, inr}
 use mathlib.Core.List.{List, [], ◌∷◌, ◌++◌, append_assoc}
-use mathlib.Core.Bool.{true, false}
+use mathlib.Core.Bool.{Bool, true, false}
+use lib.Dec.{ltb}
 use Prim.Native.Nat.{ℕ, zero, suc, ◌+◌, ◌≤◌, ◌<◌}
 use native.Mathlib.Omega.{arith}
 use lib.ListN.{length, get_or, take, drop, replicate, length-append}
@@ -13,15 +14,17 @@ use Rattle.device.specs.declared.Device.{Device}
 use Rattle.answers.specs.Outcomes.{done}
 use Rattle.carried.specs.Image.{reading, Placed, image, length_of_list}
 use Rattle.places.specs.Places.{gather}
-use Rattle.carried.specs.Convention.{scan, read}
+use Rattle.carried.specs.Convention.{complete, scan, read, write_into}
 use Rattle.carried.specs.Carried.{Sized, AllProper, Carried, RoundTrip}
 use Rattle.carried.specs.Carried as D
 use Rattle.carried.proofs.Readings.{done_inj, reading_length, length-body, fits_carriers, promotion_of}
+use Rattle.o32.specs.declared.State.{State}
 use Rattle.kinds.specs.Kinds.{kind_of}
 use Rattle.o32_offsets.specs.Offsets.{extension}
 use Rattle.o32.specs.O32.{O32, area}
 use Rattle.carried.specs.Calls.{functions_of, output, PastSignature, AcceptedSignature, LentBuffers, Accepts, reading_of}
-use Rattle.carried.proofs.Calls.{Early, Scanned, scanned_of, accepted_of, reads, is_read, reading-answered, accepted_images, images_as, accepts_exactly, written_output}
+use Rattle.carried.proofs.Calls.{Early, Scanned, scanned_of, accepted_of, reads, is_read, reading-answered, accepted_images, images_as, accepts_exactly}
+use Rattle.carried.proofs.Buffers.{output_done}
 use Rattle.o32_laws.specs.Carrying.{KindIn, ArgumentByte, CarriedBy, image_bytes, list_bytes}
 use Rattle.o32_laws.specs.Refusing.{Accepted, Improper}
 use Rattle.o32_laws.specs.Demand.{record_at, body_in, Buffers, CarriedBytes, Demand}
@@ -49,7 +52,7 @@ sized_at : (M : List Placed) (s : Placed) (N : List Placed) → Sized (M ++ (s �
 sized_at [] s N z = fits_carriers s z.0
 sized_at (m ∷ M) s N z = sized_at M s N z.1
 
-pub get_or-gather : (img ps : List ℕ) (i : ℕ) → i < length ps → get_or (gather img ps) i 0 ≡ get_or img (get_or ps i 0) 0
+get_or-gather : (img ps : List ℕ) (i : ℕ) → i < length ps → get_or (gather img ps) i 0 ≡ get_or img (get_or ps i 0) 0
 get_or-gather img [] i h = absurd (omega arith)
 get_or-gather img (p ∷ ps) zero h = refl
 get_or-gather img (p ∷ ps) (suc i) h = get_or-gather img ps i (omega arith)
@@ -73,10 +76,10 @@ stands xs k b rest x n size e l h =
 module _ (d : Device) where
   -- ---- the numbers of the refusals by record
 
-  pub early : Early (O32 d)
+  early : Early (O32 d)
   early sig r at j e p =
       let n : (1 ≤ r) × (r ≤ 5) = by_record ((refused_exactly d false sig r at j).0 e).holds in
-      elim p [ inl x ↦ omega arith | inr (inl x) ↦ omega arith | inr (inr (inl x)) ↦ omega arith | inr (inr (inr (inl x))) ↦ omega arith | inr (inr (inr (inr x))) ↦ omega arith ]
+      elim p [ inl x ↦ omega arith | inr (inl x) ↦ omega arith | inr (inr (inl x)) ↦ omega arith | inr (inr (inr x)) ↦ omega arith ]
 
   -- ---- at one accepted signature
 
@@ -188,6 +191,15 @@ module _ (d : Device) where
   one_answer_decides : (sig img out : List ℕ) → PastSignature ((functions_of (O32 d)).read sig img out).refusal → AcceptedSignature (functions_of (O32 d)) sig
   one_answer_decides sig img out h = accepted_of (O32 d) (O32-laws d) early sig (scanned_of (O32 d) (O32-laws d) early sig img out h)
 
+  -- a list that the writer accepts, and its image
+  given : (list out : List ℕ) (L : List Placed) (last : State) → scan (O32 d) true list ≡ complete L last → ((functions_of (O32 d)).write list out).refusal ≡ 0
+      → output ((functions_of (O32 d)).write list out) ≡ image (32 + area last.end) L list
+  given list out L last e h = go (ltb (length out) (length (image (32 + area last.end) L list))) refl
+    where
+      go : (t : Bool) → ltb (length out) (length (image (32 + area last.end) L list)) ≡ t → output ((functions_of (O32 d)).write list out) ≡ image (32 + area last.end) L list
+      go true f = let z : ◌≡◌ {A = ℕ} 7 0 = rw (e, f) at h in absurd (omega arith)
+      go false f = (output_done (image (32 + area last.end) L list) out (write_into (O32 d) list (length out)) (rw (e, f) refl)).1
+
   round_trip : (list ks out : List ℕ) → Accepted true list ks → ((functions_of (O32 d)).write list out).refusal ≡ 0
       → AcceptedSignature (functions_of (O32 d)) ks
       × ((u : Buffers ks) → Accepts (functions_of (O32 d)) ks u (output ((functions_of (O32 d)).write list out))
@@ -198,7 +210,7 @@ module _ (d : Device) where
       let t : RoundTrip (O32 d) list a.placed a.last = O32-round_trip d list a.placed a.last a.scanned in
       let s : Scanned (O32 d) (O32-laws d) early ks = record { placed = a.placed; last = a.last; scanned = ap (scan (O32 d) false) (sym a.kinds_are) ∙ t.signature } in
       let r : read (O32 d) ks (output ((functions_of (O32 d)).write list out)) ≡ done list =
-      ap₂ (read (O32 d)) (sym a.kinds_are) (written_output (O32 d) list out a.placed a.last a.scanned h) ∙ t.reads in (
+      ap₂ (read (O32 d)) (sym a.kinds_are) (given list out a.placed a.last a.scanned h) ∙ t.reads in (
         accepted_of (O32 d) (O32-laws d) early ks s,
         λ u. is_read (O32 d) (O32-laws d) early ks s (lent ks s u) (output ((functions_of (O32 d)).write list out)) list r,
       )

@@ -86,10 +86,6 @@ span-at zero o p m = absurd m
 span-at (suc n) o p (inl e) = between_mono o o (suc o) (o + suc n) p (omega arith) (omega arith) (carrier-at o p e)
 span-at (suc n) o p (inr m) = between_mono o (suc o) (suc o + n) (o + suc n) p (omega arith) (omega arith) (span-at n (suc o) p m)
 
--- no byte of a floating register is one of them
-pub span_no_float : (n o p : ℕ) → In p (span o n) → 16 ≤ p → p < 32 → ⊥
-span_no_float n o p m = not_floating o p (span-at n o p m).from
-
 span_distinct : (n o : ℕ) → Distinct (span o n)
 span_distinct zero o = tt
 span_distinct (suc n) o = ((λ m. (carrier-at o (carrier o) refl).before (span-at n (suc o) (carrier o) m).from), span_distinct n (suc o))
@@ -144,7 +140,7 @@ length_float f size (inr e) = rw e refl
 abbrev Unused : ℕ → ℕ → ℕ → Type 0
 Unused end count p = After end p ⊎ ((16 + 8 * count ≤ p) × (p < 32))
 
-abbrev pub Free : State → ℕ → Type 0
+abbrev Free : State → ℕ → Type 0
 Free st p = Unused st.end st.prefix.count p
 
 unused_mono : (e e' n n' p : ℕ) → e ≤ e' → n ≤ n' → Unused e' n' p → Unused e n p
@@ -175,7 +171,7 @@ and_left false b t = t
 module _ (d : Device) where
   -- an argument by its offset: m bytes from o on
   module _ (st : State) (k : ℕ) {j : ℕ} (n : ℕ) (e : Extension) (o m : ℕ) (st' : State) where
-    pub laid : st.end ≤ o → o + m ≤ st'.end → st.prefix.count ≤ st'.prefix.count → ((b : List ℕ) → length b ≡ n → length (promote e b) ≡ m)
+    laid : st.end ≤ o → o + m ≤ st'.end → st.prefix.count ≤ st'.prefix.count → ((b : List ℕ) → length b ≡ n → length (promote e b) ≡ m)
         → StepLaws (O32 d) Free st k (record { kind = k; argument = j; size = n; extension = e; carriers = span o m }) st'
     laid h g l z = record {
       kind = refl;
@@ -252,11 +248,11 @@ module _ (d : Device) where
     step_gives Plain s = unless st k (full st.prefix (of Plain)) 3 _ _ (by_offset (zeros 0) n _ refl refl (s.aligned refl) (λ b x. x))
     step_gives Structure s = unless st k (full st.prefix (of Structure)) 3 _ _ (by_offset (zeros 0) n _ refl refl (s.aligned refl) (λ b x. x))
 
-  pub O32-steps : (st : State) (k : ℕ) → StepLawful (O32 d) Free st k ((O32 d).step st k)
-  O32-steps st k = step_gives st k (kind_of k).size (kind_of k).alignment (kind_of k).class (kind_facts k)
-
   pub O32-laws : Laws (O32 d)
-  O32-laws = record { Free = Free; steps = O32-steps }
+  O32-laws = record {
+    Free = Free;
+    steps = λ st k. step_gives st k (kind_of k).size (kind_of k).alignment (kind_of k).class (kind_facts k);
+  }
 
   -- The carried-bytes theorem of O32, on every device, at every accepted signature.
   pub O32-carried : (sig : List ℕ) (L : List Placed) (last : State) → scan (O32 d) false sig ≡ complete L last → Carried (O32 d) sig L (32 + area last.end)

@@ -91,7 +91,7 @@ module _ (d : Device) where
 
   -- ---- the reader
 
-  pub reader_refuses : (sig img : List ℕ) (room r place j : ℕ) → (read_into (O32 d) sig img room ≡ refused r place j) ↔ ReaderRefuses sig img room r place j
+  reader_refuses : (sig img : List ℕ) (room r place j : ℕ) → (read_into (O32 d) sig img room ≡ refused r place j) ↔ ReaderRefuses sig img room r place j
   reader_refuses sig img room r place j =
       ((λ e. there ((read-refused (O32 d) (O32-laws d) sig img room r place j).0 e)), λ v. (read-refused (O32 d) (O32-laws d) sig img room r place j).1 (back v))
     where

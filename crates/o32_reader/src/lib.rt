@@ -32,7 +32,7 @@ pub fn check(device: Device, signature: &[u8], image: &[u8]) -> Checked
 }
 
 // The kinds and the bodies that the image carries for them, into a buffer that has room.
-pub fn copy_list(device: Device, signature: &[u8], image: &[u8], out: &mut [u8])
+fn copy_list(device: Device, signature: &[u8], image: &[u8], out: &mut [u8])
     requires admitted { Admitted (O32 device) false signature.now (length image.now) }
     requires image_in_bounds { length (reading (placed_in (scan (O32 device) false signature.now)) image.now) ≤ length out.old }
     ensures { out.new ≡ over (reading (placed_in (scan (O32 device) false signature.now)) image.now) out.old }

@@ -4,4 +4,3 @@ pub mod Ahead
 pub mod Filling
 pub mod Reading
 pub mod Answers
-pub mod Standing

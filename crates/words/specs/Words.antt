@@ -15,12 +15,10 @@ abbrev pub bytes_of_words : List ℕ → List ℕ
 bytes_of_words [] = []
 bytes_of_words (w ∷ ws) = bytes_of 4 w ++ bytes_of_words ws
 
--- What an argument has in front of its body. Rule 1, promotion: so many zeros (unsigned), or so many copies of its sign (signed). A
--- float that a call without a prototype puts into two places (request (xi) of document 02): the body once more.
+-- Rule 1. What promotion puts in front of a body: so many zeros (unsigned), or so many copies of its sign (signed).
 pub data Extension : Type 0 where
   zeros : ℕ → Extension
   signs : ℕ → Extension
-  again : Extension
 
 -- A signed or unsigned body of so many bytes, extended to w bytes.
 abbrev pub to_width : ℕ → Bool → ℕ → Extension
@@ -38,7 +36,6 @@ sign body = cond (ltb (get_or body 0 0) 0x80) 0 0xFF
 abbrev pub front : Extension → List ℕ → List ℕ
 front (zeros n) body = replicate n 0
 front (signs n) body = replicate n (sign body)
-front again body = body
 
 -- Rule 1. "a signed byte 0x80 becomes 0xFFFFFF80, an unsigned one 0x00000080."
 abbrev pub promote : Extension → List ℕ → List ℕ

@@ -6,7 +6,7 @@ use Prim.Native.Nat.{ℕ}
 use Rattle.device.specs.declared.Device.{Device}
 use Rattle.frame.specs.declared.Request.{Request}
 use Rattle.prologues.specs.Checking.{checked}
-use Rattle.c_numbers.specs.Numbers.{verdict_numbers}
+use Rattle.capi.specs.Numbers.{verdict_numbers}
 use borrow.Author.Rules.{rules}
 use Rattle.capi.proofs.o32_check_prologue.Statement.{statement}
 use Rattle.capi.proofs.o32_check_prologue.Tie as tie

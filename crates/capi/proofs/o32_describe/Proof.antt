@@ -1,7 +1,7 @@
 -- `o32_describe` meets its contract: the structure's numbers in 32 bits.
 -- Assumes nothing.
 use mathlib.Core.Path.{ap, ◌∙◌}
-use Rattle.c_numbers.specs.Numbers.{structure_numbers}
+use Rattle.capi.specs.Numbers.{structure_numbers}
 use Rattle.capi.proofs.Bounds.{structure_fits}
 use borrow.Author.Rules.{rules}
 use Rattle.capi.proofs.o32_describe.Statement.{statement}

@@ -4,7 +4,7 @@ use mathlib.Core.Path.{◌≡◌, refl, ap, ap₂, ◌∙◌}
 use mathlib.Core.Bool.{Bool, true, false, cond}
 use mir.Val.{bool_byte}
 use Rattle.frame.specs.Frame.{layout_of}
-use Rattle.c_numbers.specs.Numbers.{layout_numbers}
+use Rattle.capi.specs.Numbers.{layout_numbers}
 use borrow.Author.Rules.{rules}
 use Rattle.capi.proofs.o32_frame.Statement.{statement}
 use Rattle.capi.proofs.o32_frame.Tie as tie

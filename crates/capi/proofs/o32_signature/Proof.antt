@@ -3,7 +3,7 @@
 use mathlib.Core.Path.{◌∙◌, ap}
 use lib.ListN.{length}
 use Rattle.device.specs.declared.Device.TheVariants.{Fpu}
-use Rattle.c_numbers.specs.Numbers.{narrow}
+use Rattle.capi.specs.Numbers.{narrow}
 use Rattle.capi.proofs.Bounds.{signature_fits}
 use borrow.Author.Rules.{rules}
 use Rattle.capi.proofs.o32_signature.Statement.{statement}

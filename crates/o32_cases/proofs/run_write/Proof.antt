@@ -27,17 +27,17 @@ fresh-buffer-requires c κs = tt
 array-share-prefix-list : tie.Need-array-share-prefix-list
 array-share-prefix-list c = omega arith
 
-slice-aggregate-write-by : tie.Need-slice-aggregate-write-by
-slice-aggregate-write-by c = sym (length-take-le _ _ (omega arith))
+slice-aggregate-write-by-plan : tie.Need-slice-aggregate-write-by-plan
+slice-aggregate-write-by-plan c = sym (length-take-le _ _ (omega arith))
 
 array-borrow-prefix-out : tie.Need-array-borrow-prefix-out
 array-borrow-prefix-out c = omega arith
 
-slice-aggregate-write-by-2 : tie.Need-slice-aggregate-write-by-2
-slice-aggregate-write-by-2 c = sym (length-take-le _ _ (omega arith))
+slice-aggregate-write-by-plan-2 : tie.Need-slice-aggregate-write-by-plan-2
+slice-aggregate-write-by-plan-2 c = sym (length-take-le _ _ (omega arith))
 
-write-by-requires : tie.Need-write-by-requires
-write-by-requires c κs = tt
+write-by-plan-requires : tie.Need-write-by-plan-requires
+write-by-plan-requires c κs = tt
 
 print-answer-requires : tie.Need-print-answer-requires
 print-answer-requires c κs = tt
@@ -56,9 +56,9 @@ run-write-spec =
     returns
     fresh-buffer-requires
     array-share-prefix-list
-    slice-aggregate-write-by
+    slice-aggregate-write-by-plan
     array-borrow-prefix-out
-    slice-aggregate-write-by-2
-    write-by-requires
+    slice-aggregate-write-by-plan-2
+    write-by-plan-requires
     print-answer-requires
     returns-2)

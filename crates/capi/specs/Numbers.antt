@@ -1,23 +1,70 @@
--- The functions for C, of what a caller in C gets: what their contracts say.
-use Rattle.std.specs.Prelude.{List, ℕ, length}
+-- The numbers that C hands over and gets.
+use Rattle.std.specs.Prelude.{cond, not, List, ℕ, length, eqb}
 use Rattle.device.specs.declared.Device.{Device}
+use Rattle.device.specs.declared.Device.TheVariants.{Fpu, NoFpu}
+use Rattle.answers.specs.declared.Answer.{Answer}
 use Rattle.answers.specs.Outcomes.{answer_of, buffer_of}
 use Rattle.carried.specs.Convention.{read_into, write_into}
-use Rattle.carried.specs.Calls.{Functions}
+use Rattle.carried.specs.Calls.{Result, Functions}
 use Rattle.o32.specs.O32.{O32}
 use Rattle.varargs.specs.Walking.{walk_into}
 use Rattle.varargs.specs.Varargs.{Walker}
-use Rattle.unprototyped.specs.Unprototyped.{read_unprototyped, write_unprototyped}
 use Rattle.plans.specs.Plans.{make_into, fill_into, signature_into}
 use Rattle.plans.specs.Pair.{Pair}
 use Rattle.descriptions.specs.declared.Structure.{Structure}
 use Rattle.descriptions.specs.Describing.{described}
 use Rattle.frame.specs.declared.Request.{Request}
+use Rattle.frame.specs.declared.Layout.{Layout}
 use Rattle.prologues.specs.declared.Verdict.{Verdict}
 use Rattle.prologues.specs.Checking.{checked}
-use Rattle.c_numbers.specs.declared.O32Structure.{O32Structure}
-use Rattle.c_numbers.specs.declared.O32Verdict.{O32Verdict}
-use Rattle.c_numbers.specs.Numbers.{narrow, structure_numbers, verdict_numbers, result_for_c, device_of, edition_of}
+use Rattle.capi.specs.declared.O32Answer.{O32Answer}
+use Rattle.capi.specs.declared.O32Layout.{O32Layout}
+use Rattle.capi.specs.declared.O32Structure.{O32Structure}
+use Rattle.capi.specs.declared.O32Verdict.{O32Verdict}
+
+-- An answer, number by number.
+abbrev pub narrow : Answer → O32Answer
+narrow a = record { refusal = a.refusal; place = a.place; argument = a.argument; length = a.length }
+
+-- A layout, number by number. C gets a yes or no as 1 or 0.
+abbrev pub layout_numbers : Layout → O32Layout
+layout_numbers y = record {
+  refusal = y.refusal;
+  place = y.place;
+  frame = y.frame;
+  build = y.build;
+  floating = y.floating;
+  general = y.general;
+  locals = y.locals;
+  gp_saved = cond y.gp_saved 1 0;
+  gp = y.gp;
+}
+
+-- A structure that was described, number by number.
+abbrev pub structure_numbers : Structure → O32Structure
+structure_numbers x = record { refusal = x.refusal; place = x.place; size = x.size; alignment = x.alignment; kind = x.kind }
+
+-- A verdict on a prologue, number by number.
+abbrev pub verdict_numbers : Verdict → O32Verdict
+verdict_numbers x = record { refusal = x.refusal; place = x.place; verdict = x.verdict }
+
+-- What a caller in C gets from a call: the numbers of its answer, and its buffer afterwards.
+abbrev pub result_for_c : O32Answer → List ℕ → Result
+result_for_c a out = record { refusal = a.refusal; place = a.place; argument = a.argument; length = a.length; buffer = out }
+
+-- A device. 0 is the one with a floating-point unit, any other number the one without.
+abbrev pub device_of : ℕ → Device
+device_of n = cond (eqb n 0) Fpu NoFpu
+
+-- A request. C says whether a routine is a leaf by a number: 0 is no, any other yes.
+abbrev pub request_of : ℕ → ℕ → ℕ → ℕ → ℕ → Request
+request_of leaf locals outgoing general pairs = record {
+  leaf = not (eqb leaf 0);
+  locals = locals;
+  outgoing = outgoing;
+  general = general;
+  pairs = pairs;
+}
 
 -- `o32_read` and `o32_write` with this device, as their contracts say.
 abbrev pub functions_for_c : ℕ → Functions
@@ -25,17 +72,6 @@ functions_for_c device = record {
   read = λ sig img out.
       result_for_c (narrow (answer_of (read_into (O32 (device_of device)) sig img (length out)))) (buffer_of (read_into (O32 (device_of device)) sig img (length out)) out);
   write = λ list out. result_for_c (narrow (answer_of (write_into (O32 (device_of device)) list (length out)))) (buffer_of (write_into (O32 (device_of device)) list (length out)) out);
-}
-
--- `o32_read_unprototyped` and `o32_write_unprototyped` with this device and this edition, likewise.
-abbrev pub unprototyped_for_c : ℕ → ℕ → Functions
-unprototyped_for_c device edition = record {
-  read = λ sig img out.
-      result_for_c (narrow (answer_of (read_unprototyped (device_of device) (edition_of edition) sig img (length out))))
-      (buffer_of (read_unprototyped (device_of device) (edition_of edition) sig img (length out)) out);
-  write = λ list out.
-      result_for_c (narrow (answer_of (write_unprototyped (device_of device) (edition_of edition) list (length out))))
-      (buffer_of (write_unprototyped (device_of device) (edition_of edition) list (length out)) out);
 }
 
 -- `o32_walk` with this device, likewise.

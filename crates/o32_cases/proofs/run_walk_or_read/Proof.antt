@@ -1,10 +1,10 @@
--- `run_read` is safe: the parts that are lent lie within their buffers.
+-- `run_walk_or_read` is safe: the parts that are lent lie within their buffers.
 -- Assumes nothing.
 use mathlib.Core.Path.{sym}
 use native.Mathlib.Omega.{arith}
 use lib.Seq.{length-take-le}
-use Rattle.o32_cases.proofs.run_read.Statement.{statement}
-use Rattle.o32_cases.proofs.run_read.Tie as tie
+use Rattle.o32_cases.proofs.run_walk_or_read.Statement.{statement}
+use Rattle.o32_cases.proofs.run_walk_or_read.Tie as tie
 
 find-requires : tie.Need-find-requires
 find-requires c κs = omega arith
@@ -51,23 +51,23 @@ returns-3 c = tt
 array-share-prefix-signature : tie.Need-array-share-prefix-signature
 array-share-prefix-signature c = omega arith
 
-slice-aggregate-print-read : tie.Need-slice-aggregate-print-read
-slice-aggregate-print-read c = sym (length-take-le _ _ (omega arith))
+slice-aggregate-print-walk-or-read : tie.Need-slice-aggregate-print-walk-or-read
+slice-aggregate-print-walk-or-read c = sym (length-take-le _ _ (omega arith))
 
 array-share-prefix-image : tie.Need-array-share-prefix-image
 array-share-prefix-image c = omega arith
 
-slice-aggregate-print-read-2 : tie.Need-slice-aggregate-print-read-2
-slice-aggregate-print-read-2 c = sym (length-take-le _ _ (omega arith))
+slice-aggregate-print-walk-or-read-2 : tie.Need-slice-aggregate-print-walk-or-read-2
+slice-aggregate-print-walk-or-read-2 c = sym (length-take-le _ _ (omega arith))
 
-print-read-requires : tie.Need-print-read-requires
-print-read-requires c κs = omega arith
+print-walk-or-read-requires : tie.Need-print-walk-or-read-requires
+print-walk-or-read-requires c κs = omega arith
 
 returns-4 : tie.Need-returns-4
 returns-4 c = tt
 
-pub run-read-spec : {M : Type 1} → statement M
-run-read-spec =
+pub run-walk-or-read-spec : {M : Type 1} → statement M
+run-walk-or-read-spec =
     tie.close
     (tie.spec
     find-requires
@@ -85,8 +85,8 @@ run-read-spec =
     malformed-requires-3
     returns-3
     array-share-prefix-signature
-    slice-aggregate-print-read
+    slice-aggregate-print-walk-or-read
     array-share-prefix-image
-    slice-aggregate-print-read-2
-    print-read-requires
+    slice-aggregate-print-walk-or-read-2
+    print-walk-or-read-requires
     returns-4)
