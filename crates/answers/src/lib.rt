@@ -1,4 +1,5 @@
 // What a function with a lent buffer answers.
+#![tactic(auto)]
 ghost use Rattle.std.specs.Prelude.{◌≡◌};
 
 // A refusal, its place and its argument's number, or 0, 0, 0 and the length of what was written.

@@ -3,6 +3,7 @@
 //
 // Of what is printed the language has nothing to promise, so the functions that print answer how long the text is that they write, or
 // where the line ends.
+#![tactic(auto)]
 ghost use Rattle.std.specs.Prelude.{cond, ◌||◌, [], ◌∷◌, ◌++◌, ◌≡◌, ◌%◌, ◌*◌, ◌+◌, ◌<◌, ◌≤◌, eqb, ltb, drop, length, replicate, take};
 ghost use Rattle.case_input.specs.Lines.{place_of};
 ghost use Rattle.case_output.specs.AnswerText.{answer_text, byte_text, bytes_text, is_clear, is_kept, kept_text, refusal_part};

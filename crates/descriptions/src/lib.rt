@@ -1,4 +1,5 @@
 // Structures from descriptions: the data that the definitions in specs/ speak of. There is no code here.
+#![tactic(auto)]
 
 // A structure that was described: a refusal, its place and all other numbers 0, or 0, 0 and the structure's numbers.
 #[derive(Drop)]

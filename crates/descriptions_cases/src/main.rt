@@ -9,6 +9,7 @@
 // characters is answered "malformed". Of the text the first 16,384 bytes are read.
 //
 // The answer is the refusal, if there is one; then the size and the alignment, in decimal, and the kind byte.
+#![tactic(auto)]
 ghost use Rattle.std.specs.Prelude.{◌≤◌, length};
 
 use descriptions::Structure;

@@ -1,4 +1,5 @@
 // The devices. There is no code here.
+#![tactic(auto)]
 
 // The board that a call or a frame is for. Rule 3 and the pairs that a frame saves depend on it.
 #[derive(Drop)]

@@ -1,4 +1,5 @@
 // Frames: the data that the definitions in specs/ speak of. There is no code here.
+#![tactic(auto)]
 
 // What a routine asks of its frame.
 #[derive(Drop)]

@@ -15,6 +15,7 @@
 // The answer to frame is the layout's numbers, F and B first and the yes or no for $28 with its offset last, then for prologue and
 // epilogue the refusal, or the words that were written; their length in bytes, and whether every other byte of the buffer is kept.
 // The answer to check is the refusal, if there is one, and the verdict.
+#![tactic(auto)]
 ghost use Rattle.std.specs.Prelude.{◌≤◌, length};
 
 use answers::Answer;

@@ -1,6 +1,7 @@
 // Reads an argument list from standard input, at most 2,048 bytes, and prints its call image for the device with a floating-point
 // unit, or its refusal. There is no exit status: where the list could not be read, and nothing is printed, or the text could not be
 // written, a line on standard error says so.
+#![tactic(auto)]
 ghost use Rattle.std.specs.Prelude.{length};
 ghost use Rattle.image.specs.Input.{Within};
 

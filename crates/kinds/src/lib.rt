@@ -1,4 +1,5 @@
 // The kinds of a list: what a kind byte means, in every convention.
+#![tactic(auto)]
 ghost use Rattle.std.specs.Prelude.{◌≡◌};
 ghost use Rattle.kinds.specs.Kinds.{class_number, is, kind_of};
 

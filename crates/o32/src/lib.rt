@@ -1,4 +1,5 @@
 // The O32 convention: the data that its definitions in specs/ speak of. There is no code here.
+#![tactic(auto)]
 
 use kinds::Kind;
 use rules::Prefix;

@@ -1,4 +1,5 @@
 // Plans: the data that the definitions in specs/ speak of. There is no code here.
+#![tactic(auto)]
 
 // An entry of a plan. Request (vii) of document 02: "A placement is the kind, the offset and the floating register or 0."
 #[derive(Drop)]

@@ -16,6 +16,7 @@
 // The answer to plan is the refusal, if there is one; then the count and the area size, and each entry that is not all zero. The answer
 // to fill and other is the refusal, or the bytes that were written, 16 to a line; then their number, and whether every other byte of
 // the buffer is kept. The answer to changed is how many of the 98 plans were refused 20.
+#![tactic(auto)]
 ghost use Rattle.std.specs.Prelude.{◌≤◌, length};
 
 use device::Device;

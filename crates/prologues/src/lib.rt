@@ -1,4 +1,5 @@
 // Prologues that others send: the answer that the definitions in specs/ speak of. There is no code here.
+#![tactic(auto)]
 
 // What a check answers: a refusal and its place, then 0; or 0, 0 and the verdict.
 #[derive(Drop)]

@@ -1,4 +1,5 @@
 // The rules on lists that every convention has: what is kept of the records before, refusals 2 and 3, and the argument's number.
+#![tactic(auto)]
 ghost use Rattle.std.specs.Prelude.{◌||◌, ◌≡◌, ◌≤◌};
 ghost use Rattle.kinds.specs.declared.Class.TheVariants.{Pointer};
 ghost use Rattle.kinds.specs.Kinds.{is};

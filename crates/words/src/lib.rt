@@ -1,4 +1,6 @@
 // Words and their bytes. Placement rule 1: bytes and halfwords become words, through signed types.
+#![tactic(auto)]
+
 ghost use Rattle.std.specs.Prelude.{◌≡◌, ◌+◌, ◌≤◌, drop, length, take};
 ghost use Rattle.std.proofs.lemmas.List.Edits.{sets};
 ghost use Rattle.std.specs.Int.{w16, w32, w8};

@@ -9,12 +9,12 @@ use Rattle.words.proofs.is_promoted_byte.Tie as tie
 cast-promote-byte : tie.Need-overflow-cast-promote-byte
 cast-promote-byte c = search rules
 
-promote-byte-requires : tie.Need-promote-byte-requires
+promote-byte-requires : tie.Need-promote_byte-requires
 promote-byte-requires c κs = search rules
 
 returns : tie.Need-returns
 returns c =
-    promoted_test w8 w32 c.before.args.signed c.before.args.w c.promote-byte.result tt c.before.ranges.w.fits c.promote-byte.type-inv c.promote-byte.ensures
+    promoted_test w8 w32 c.before.args.signed c.before.args.w c.promote_byte.result tt c.before.ranges.w.fits c.promote_byte.type_inv c.promote_byte.ensures
 
 pub is-promoted-byte-spec : {M : Type 1} → statement M
 is-promoted-byte-spec = tie.close (tie.spec cast-promote-byte promote-byte-requires returns)

@@ -7,13 +7,13 @@ use Rattle.words.proofs.Promotion.{signed_extended, unsigned_extended}
 use Rattle.words.proofs.promote_byte.Statement.{statement}
 use Rattle.words.proofs.promote_byte.Tie as tie
 
-signed-byte-requires : tie.Need-signed-byte-requires
+signed-byte-requires : tie.Need-signed_byte-requires
 signed-byte-requires c κs = search rules
 
 cast-word-bits : tie.Need-overflow-cast-word-bits
 cast-word-bits c = widened w8 w32 c.signed-byte.result tt (record { sfits = c.signed-byte.type-inv })
 
-word-bits-requires : tie.Need-word-bits-requires
+word-bits-requires : tie.Need-word_bits-requires
 word-bits-requires c κs = search rules
 
 returns : tie.Need-returns

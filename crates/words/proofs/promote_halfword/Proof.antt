@@ -7,13 +7,13 @@ use Rattle.words.proofs.Promotion.{signed_extended, unsigned_extended}
 use Rattle.words.proofs.promote_halfword.Statement.{statement}
 use Rattle.words.proofs.promote_halfword.Tie as tie
 
-signed-halfword-requires : tie.Need-signed-halfword-requires
+signed-halfword-requires : tie.Need-signed_halfword-requires
 signed-halfword-requires c κs = search rules
 
 cast-word-bits : tie.Need-overflow-cast-word-bits
 cast-word-bits c = widened w16 w32 c.signed-halfword.result tt (record { sfits = c.signed-halfword.type-inv })
 
-word-bits-requires : tie.Need-word-bits-requires
+word-bits-requires : tie.Need-word_bits-requires
 word-bits-requires c κs = search rules
 
 returns : tie.Need-returns

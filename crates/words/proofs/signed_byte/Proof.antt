@@ -9,10 +9,10 @@ use borrow.Author.Rules.{rules}
 use Rattle.words.proofs.signed_byte.Statement.{statement}
 use Rattle.words.proofs.signed_byte.Tie as tie
 
-cast-result : tie.Need-overflow-cast-result
+cast-result : tie.Need-overflow_cast-result
 cast-result c = search rules
 
-sub-result : tie.Need-overflow-sub-result
+sub-result : tie.Need-overflow_sub-result
 sub-result c = search rules
 
 cast-result-2 : tie.Need-overflow-cast-result-2

@@ -10,52 +10,52 @@ use Rattle.words.proofs.word_at.Tie as tie
 shared-slice-read-result : tie.Need-shared-slice-read-result
 shared-slice-read-result c = search rules
 
-cast-result : tie.Need-overflow-cast-result
+cast-result : tie.Need-overflow_cast-result
 cast-result c = omega (arith, c.shared-slice-known.given c.before.args.at)
 
-mul-result : tie.Need-overflow-mul-result
+mul-result : tie.Need-overflow_mul-result
 mul-result c = omega (arith, c.shared-slice-known.given c.before.args.at)
 
-add-result : tie.Need-overflow-add-result
+add-result : tie.Need-overflow_add-result
 add-result c = search rules
 
 shared-slice-read-result-2 : tie.Need-shared-slice-read-result-2
 shared-slice-read-result-2 c = search rules
 
-cast-result-2 : tie.Need-overflow-cast-result-2
+cast-result-2 : tie.Need-overflow_cast-result-2
 cast-result-2 c = omega (arith, c.shared-slice-known2.given (c.before.before.args.at + 1))
 
-mul-result-2 : tie.Need-overflow-mul-result-2
+mul-result-2 : tie.Need-overflow_mul-result-2
 mul-result-2 c = omega (arith, c.shared-slice-known2.given (c.before.before.args.at + 1))
 
-add-result-2 : tie.Need-overflow-add-result-2
+add-result-2 : tie.Need-overflow_add-result-2
 add-result-2 c = let at = c.before.before.args.at in let b = c.shared-slice-known2.given in omega (arith, b at, b (at + 1))
 
-add-result-3 : tie.Need-overflow-add-result-3
+add-result-3 : tie.Need-overflow_add-result-3
 add-result-3 c = search rules
 
 shared-slice-read-result-3 : tie.Need-shared-slice-read-result-3
 shared-slice-read-result-3 c = search rules
 
-cast-result-3 : tie.Need-overflow-cast-result-3
+cast-result-3 : tie.Need-overflow_cast-result-3
 cast-result-3 c = omega (arith, c.shared-slice-known3.given (c.before.before.before.args.at + 2))
 
-mul-result-3 : tie.Need-overflow-mul-result-3
+mul-result-3 : tie.Need-overflow_mul-result-3
 mul-result-3 c = omega (arith, c.shared-slice-known3.given (c.before.before.before.args.at + 2))
 
-add-result-4 : tie.Need-overflow-add-result-4
+add-result-4 : tie.Need-overflow_add-result-4
 add-result-4 c = let at = c.before.before.before.args.at in let b = c.shared-slice-known3.given in omega (arith, b at, b (at + 1), b (at + 2))
 
-add-result-5 : tie.Need-overflow-add-result-5
+add-result-5 : tie.Need-overflow_add-result-5
 add-result-5 c = search rules
 
 shared-slice-read-result-4 : tie.Need-shared-slice-read-result-4
 shared-slice-read-result-4 c = search rules
 
-cast-result-4 : tie.Need-overflow-cast-result-4
+cast-result-4 : tie.Need-overflow_cast-result-4
 cast-result-4 c = omega (arith, c.shared-slice-known4.given (c.before.before.before.before.args.at + 3))
 
-add-result-6 : tie.Need-overflow-add-result-6
+add-result-6 : tie.Need-overflow_add-result-6
 add-result-6 c = let at = c.before.before.before.before.args.at in let b = c.shared-slice-known4.given in omega (arith, b at, b (at + 1), b (at + 2), b (at + 3))
 
 returns : tie.Need-returns

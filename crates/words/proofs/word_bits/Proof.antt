@@ -11,10 +11,10 @@ use Rattle.words.proofs.Sign.{negative, negative_bits, positive, cast_ok}
 use Rattle.words.proofs.word_bits.Statement.{statement}
 use Rattle.words.proofs.word_bits.Tie as tie
 
-cast-result : tie.Need-overflow-cast-result
+cast-result : tie.Need-overflow_cast-result
 cast-result c = cast_ok w32 _ (mag c.before.args.x) (negative w32 c.before.args.x c.before.ranges.x c.if1.true) (omega (arith, c.before.ranges.x.sfits))
 
-sub-result : tie.Need-overflow-sub-result
+sub-result : tie.Need-overflow_sub-result
 sub-result c = omega (arith, ap nat_abs (negative w32 c.before.args.x c.before.ranges.x c.if1.true), c.before.ranges.x.sfits)
 
 cast-result-2 : tie.Need-overflow-cast-result-2
