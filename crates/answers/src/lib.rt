@@ -1,9 +1,10 @@
 // What a function with a lent buffer answers.
 #![tactic(auto)]
+
 ghost use Rattle.std.specs.Prelude.{◌≡◌};
 
 // A refusal, its place and its argument's number, or 0, 0, 0 and the length of what was written.
-#[derive(Drop)]
+#[derive(Clone, Copy)]
 pub struct Answer {
     pub refusal: u32,
     pub place: usize,

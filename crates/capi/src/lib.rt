@@ -21,7 +21,7 @@ use frame::Request;
 
 // A refusal, its place and its argument's number, or 0, 0, 0 and the length of what was written.
 #[repr(C)]
-#[derive(Drop)]
+#[derive(Clone, Copy)]
 pub struct O32Answer {
     pub refusal: u32,
     pub place: u32,
@@ -31,7 +31,7 @@ pub struct O32Answer {
 
 // A frame: a refusal and all other numbers 0, or 0, 0 and the frame's numbers. `gp_saved` is 1 for yes and 0 for no.
 #[repr(C)]
-#[derive(Drop)]
+#[derive(Clone, Copy)]
 pub struct O32Layout {
     pub refusal: u32,
     pub place: u32,
@@ -46,7 +46,7 @@ pub struct O32Layout {
 
 // A structure that was described: a refusal, its place and all other numbers 0, or 0, 0 and the structure's numbers.
 #[repr(C)]
-#[derive(Drop)]
+#[derive(Clone, Copy)]
 pub struct O32Structure {
     pub refusal: u32,
     pub place: u32,
@@ -57,7 +57,7 @@ pub struct O32Structure {
 
 // What is answered for code that is sent as a prologue: a refusal, its place and 0, or 0, 0 and the verdict.
 #[repr(C)]
-#[derive(Drop)]
+#[derive(Clone, Copy)]
 pub struct O32Verdict {
     pub refusal: u32,
     pub place: u32,

@@ -17,7 +17,7 @@ use Rattle.carried.proofs.Wholeness.{scan_reading}
 use Rattle.carried.proofs.Theorem.{theorem}
 use Rattle.carried.proofs.RoundTrip.{round_trip}
 use Rattle.carried.proofs.Readings.{done_inj, reading_length}
-use Rattle.carried.specs.Calls.{Functions, functions_of, output, PastSignature, AcceptedSignature, LentBuffers, Accepts, reading_of, rewriting_of_lem, AcceptedImages}
+use Rattle.carried.specs.Calls.{Functions, functions_of, output, PastSignature, AcceptedSignature, LentBuffers, Accepts, reading_of, rewriting_of, AcceptedImages}
 use Rattle.carried.proofs.Buffers.{written_is, read_is, answered-length, output_done, accepted_done, past_signature, read_numbered}
 use Rattle.words.proofs.Impossible.{impossible}
 
@@ -108,13 +108,13 @@ module _ (c : Convention) (laws : Laws c) (early : Early c) (sig : List ℕ) whe
 
     -- the rewriting is that of the theorem
     rewritten : (u : LentBuffers m n) (a : List ℕ) (h : Accepts (functions_of c) sig u a)
-        → (((functions_of c).write (reading_of (functions_of c) sig u a) u.image).refusal ≡ 0) × (rewriting_of_lem (functions_of c) sig u a ≡ (rewriting_of_lem u a h).rewriting)
+        → (((functions_of c).write (reading_of (functions_of c) sig u a) u.image).refusal ≡ 0) × (rewriting_of (functions_of c) sig u a ≡ (rewriting_of_lem u a h).rewriting)
     rewritten u a h = is_written u (reading_of (functions_of c) sig u a) (rewriting_of_lem u a h).rewriting (rewriting_of_lem u a h).written (rewriting_of_lem u a h).whole
 
-    written_as : (u : LentBuffers m n) (a : List ℕ) (h : Accepts (functions_of c) sig u a) → write c (reading_of (functions_of c) sig u a) ≡ done (rewriting_of_lem (functions_of c) sig u a)
+    written_as : (u : LentBuffers m n) (a : List ℕ) (h : Accepts (functions_of c) sig u a) → write c (reading_of (functions_of c) sig u a) ≡ done (rewriting_of (functions_of c) sig u a)
     written_as u a h = (rewriting_of_lem u a h).written ∙ ap done (sym (rewritten u a h).1)
 
-    long : (u : LentBuffers m n) (a : List ℕ) (h : Accepts (functions_of c) sig u a) → length (rewriting_of_lem (functions_of c) sig u a) ≡ n
+    long : (u : LentBuffers m n) (a : List ℕ) (h : Accepts (functions_of c) sig u a) → length (rewriting_of (functions_of c) sig u a) ≡ n
     long u a h = ap length (rewritten u a h).1 ∙ (rewriting_of_lem u a h).whole
 
     rewritten_length : (u : LentBuffers m n) (a : List ℕ) (h : Accepts (functions_of c) sig u a) → ((functions_of c).write (reading_of (functions_of c) sig u a) u.image).length ≡ n
@@ -131,9 +131,9 @@ module _ (c : Convention) (laws : Laws c) (early : Early c) (sig : List ℕ) whe
         answered-length x (read_into c sig a (length u.list)) ((read_is c sig a x (length u.list)).1 (e, omega (arith, read_long a x e, u.list_long))) ∙ read_long a x e
 
     read_again : (u v : LentBuffers m n) (a : List ℕ) (h : Accepts (functions_of c) sig u a)
-        → Accepts (functions_of c) sig v (rewriting_of_lem (functions_of c) sig u a) × (reading_of (functions_of c) sig v (rewriting_of_lem (functions_of c) sig u a) ≡ reading_of (functions_of c) sig u a)
+        → Accepts (functions_of c) sig v (rewriting_of (functions_of c) sig u a) × (reading_of (functions_of c) sig v (rewriting_of (functions_of c) sig u a) ≡ reading_of (functions_of c) sig u a)
     read_again u v a h =
-        is_read v (rewriting_of_lem (functions_of c) sig u a) (reading_of (functions_of c) sig u a) (ap (read c sig) (rewritten u a h).1 ∙ (rewriting_of_lem u a h).reads)
+        is_read v (rewriting_of (functions_of c) sig u a) (reading_of (functions_of c) sig u a) (ap (read c sig) (rewritten u a h).1 ∙ (rewriting_of_lem u a h).reads)
 
     -- what the writer gives for the reading of no image at all
     some_image : (u : LentBuffers m n) → (a : List ℕ) × Accepts (functions_of c) sig u a
@@ -155,10 +155,10 @@ module _ (c : Convention) (laws : Laws c) (early : Early c) (sig : List ℕ) whe
       accepted_again = λ u v a h. (read_again u v a h).0;
       reads_the_same = λ u v a h. (read_again u v a h).1;
       fixed_point = λ u v a h.
-          (is_written v (reading_of (functions_of c) sig v (rewriting_of_lem (functions_of c) sig u a)) (rewriting_of_lem (functions_of c) sig u a)
+          (is_written v (reading_of (functions_of c) sig v (rewriting_of (functions_of c) sig u a)) (rewriting_of (functions_of c) sig u a)
           (ap (write c) (read_again u v a h).1 ∙ written_as u a h) (long u a h)).1;
       same_rewriting = λ u v a b h k.
-          carried_bytes.same_rewriting a b (reading_of (functions_of c) sig u a) (reading_of (functions_of c) sig v b) (rewriting_of_lem (functions_of c) sig u a) (rewriting_of_lem (functions_of c) sig v b)
+          carried_bytes.same_rewriting a b (reading_of (functions_of c) sig u a) (reading_of (functions_of c) sig v b) (rewriting_of (functions_of c) sig u a) (rewriting_of (functions_of c) sig v b)
           (reads u a h) (reads v b k) (written_as u a h) (written_as v b k);
     }
 

@@ -61,8 +61,8 @@ module _ (f : Functions) (sig : List ℕ) {m n : ℕ} where
   abbrev pub rewrite : LentBuffers m n → List ℕ → Result
   rewrite u a = f.write (reading_of u a) u.image
 
-  abbrev pub rewriting_of_lem : LentBuffers m n → List ℕ → List ℕ
-  rewriting_of_lem u a = output (rewrite u a)
+  abbrev pub rewriting_of : LentBuffers m n → List ℕ → List ℕ
+  rewriting_of u a = output (rewrite u a)
 
 -- Two images agree on these bytes, whatever the rest holds.
 abbrev pub Agree : (ℕ → Type 0) → List ℕ → List ℕ → Type 0
@@ -79,17 +79,17 @@ pub record AcceptedImages (f : Functions) (sig : List ℕ) (m n : ℕ) (IsCarrie
       → (reading_of f sig u a ≡ reading_of f sig v b) ↔ Agree IsCarried a b
   -- "The writer accepts the reading of every accepted image; the image it then gives (the rewriting) ..
   pub rewrites : (u : LentBuffers m n) (a : List ℕ) → Accepts f sig u a → (rewrite f sig u a).refusal ≡ 0
-  pub rewriting_length : (u : LentBuffers m n) (a : List ℕ) → Accepts f sig u a → ((rewrite f sig u a).length ≡ n) × (length (rewriting_of_lem f sig u a) ≡ n)
+  pub rewriting_length : (u : LentBuffers m n) (a : List ℕ) → Accepts f sig u a → ((rewrite f sig u a).length ≡ n) × (length (rewriting_of f sig u a) ≡ n)
   -- .. has the first one's carried bytes
-  pub keeps_carried : (u : LentBuffers m n) (a : List ℕ) → Accepts f sig u a → Agree IsCarried (rewriting_of_lem f sig u a) a
+  pub keeps_carried : (u : LentBuffers m n) (a : List ℕ) → Accepts f sig u a → Agree IsCarried (rewriting_of f sig u a) a
   -- and zero elsewhere,
-  pub zero_elsewhere : (u : LentBuffers m n) (a : List ℕ) → Accepts f sig u a → (p : ℕ) → (IsCarried p → ⊥) → get_or (rewriting_of_lem f sig u a) p 0 ≡ 0
+  pub zero_elsewhere : (u : LentBuffers m n) (a : List ℕ) → Accepts f sig u a → (p : ℕ) → (IsCarried p → ⊥) → get_or (rewriting_of f sig u a) p 0 ≡ 0
   -- is accepted,
-  pub accepted_again : (u v : LentBuffers m n) (a : List ℕ) → Accepts f sig u a → Accepts f sig v (rewriting_of_lem f sig u a)
+  pub accepted_again : (u v : LentBuffers m n) (a : List ℕ) → Accepts f sig u a → Accepts f sig v (rewriting_of f sig u a)
   -- reads the same,
-  pub reads_the_same : (u v : LentBuffers m n) (a : List ℕ) → Accepts f sig u a → reading_of f sig v (rewriting_of_lem f sig u a) ≡ reading_of f sig u a
+  pub reads_the_same : (u v : LentBuffers m n) (a : List ℕ) → Accepts f sig u a → reading_of f sig v (rewriting_of f sig u a) ≡ reading_of f sig u a
   -- is a fixed point;
-  pub fixed_point : (u v : LentBuffers m n) (a : List ℕ) → Accepts f sig u a → rewriting_of_lem f sig v (rewriting_of_lem f sig u a) ≡ rewriting_of_lem f sig u a
+  pub fixed_point : (u v : LentBuffers m n) (a : List ℕ) → Accepts f sig u a → rewriting_of f sig v (rewriting_of f sig u a) ≡ rewriting_of f sig u a
   -- two images have the same rewriting exactly when they read as the same list."
   pub same_rewriting : (u v : LentBuffers m n) (a b : List ℕ) → Accepts f sig u a → Accepts f sig v b
-      → (rewriting_of_lem f sig u a ≡ rewriting_of_lem f sig v b) ↔ (reading_of f sig u a ≡ reading_of f sig v b)
+      → (rewriting_of f sig u a ≡ rewriting_of f sig v b) ↔ (reading_of f sig u a ≡ reading_of f sig v b)

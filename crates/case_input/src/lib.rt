@@ -11,7 +11,7 @@ use device::Device;
 const MALFORMED: usize = 99999;
 
 // A decimal number in a text, and the place after it.
-#[derive(Drop)]
+#[derive(Clone, Copy)]
 pub struct Number {
     pub value: usize,
     pub end: usize,
@@ -19,7 +19,7 @@ pub struct Number {
 
 // A pair of hex digits with its sign and number: its byte, how many bytes it makes, by how much each is more than the last, and the
 // place after it.
-#[derive(Drop)]
+#[derive(Clone, Copy)]
 struct Series {
     byte: u8,
     count: usize,

@@ -10,19 +10,19 @@ use Rattle.descriptions.specs.Descriptions.{Unambiguous}
 use Rattle.descriptions.proofs.Leading.{scalar_low}
 
 -- the scalar of a byte
-scalar_at_lem : ℕ → Scalar
-scalar_at_lem zero = signed_byte
-scalar_at_lem (suc zero) = signed_byte
-scalar_at_lem (suc (suc zero)) = unsigned_byte
-scalar_at_lem (suc (suc (suc zero))) = signed_halfword
-scalar_at_lem (suc (suc (suc (suc zero)))) = unsigned_halfword
-scalar_at_lem (suc (suc (suc (suc (suc zero))))) = word
-scalar_at_lem (suc (suc (suc (suc (suc (suc zero)))))) = doubleword
-scalar_at_lem (suc (suc (suc (suc (suc (suc (suc zero))))))) = single
-scalar_at_lem (suc (suc (suc (suc (suc (suc (suc (suc b)))))))) = double
+scalar_at : ℕ → Scalar
+scalar_at zero = signed_byte
+scalar_at (suc zero) = signed_byte
+scalar_at (suc (suc zero)) = unsigned_byte
+scalar_at (suc (suc (suc zero))) = signed_halfword
+scalar_at (suc (suc (suc (suc zero)))) = unsigned_halfword
+scalar_at (suc (suc (suc (suc (suc zero))))) = word
+scalar_at (suc (suc (suc (suc (suc (suc zero)))))) = doubleword
+scalar_at (suc (suc (suc (suc (suc (suc (suc zero))))))) = single
+scalar_at (suc (suc (suc (suc (suc (suc (suc (suc b)))))))) = double
 
-scalar_at_lem : (s : Scalar) → scalar_at_lem (kind_byte s) ≡ s
-unfolding scalar_at_lem
+scalar_at_lem : (s : Scalar) → scalar_at (kind_byte s) ≡ s
+unfolding scalar_at
 scalar_at_lem signed_byte = refl
 scalar_at_lem unsigned_byte = refl
 scalar_at_lem signed_halfword = refl
@@ -33,7 +33,7 @@ scalar_at_lem single = refl
 scalar_at_lem double = refl
 
 scalar_same : (s t : Scalar) → kind_byte s ≡ kind_byte t → s ≡ t
-scalar_same s t e = sym (scalar_at_lem s) ∙ ap scalar_at_lem e ∙ scalar_at_lem t
+scalar_same s t e = sym (scalar_at_lem s) ∙ ap scalar_at e ∙ scalar_at_lem t
 
 -- a member does not begin with 11
 begins : (m : Member) (k l : List ℕ) → spelling m ++ k ≡ 0x11 ∷ l → ⊥

@@ -2,7 +2,7 @@
 #![tactic(auto)]
 
 // A structure that was described: a refusal, its place and all other numbers 0, or 0, 0 and the structure's numbers.
-#[derive(Drop)]
+#[derive(Clone, Copy)]
 pub struct Structure {
     pub refusal: u32,
     pub place: usize,

@@ -10,7 +10,7 @@ use descriptions::Structure;
 use kinds::Class;
 
 // A member's type that was read, to its last byte; or a refusal and its place.
-#[derive(Drop)]
+#[derive(Clone, Copy)]
 enum Member {
     Read {
         size: usize,
@@ -21,7 +21,7 @@ enum Member {
 }
 
 // How often the member at `next` is there; 0 times where the byte at `next`, or its absence, is refused 16.
-#[derive(Drop)]
+#[derive(Clone, Copy)]
 struct Repeat {
     pub times: usize,
     pub next: usize,

@@ -2,7 +2,7 @@
 #![tactic(auto)]
 
 // The board that a call or a frame is for. Rule 3 and the pairs that a frame saves depend on it.
-#[derive(Drop)]
+#[derive(Clone, Copy)]
 pub enum Device {
     // with a floating-point unit
     Fpu,

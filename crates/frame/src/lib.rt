@@ -2,7 +2,7 @@
 #![tactic(auto)]
 
 // What a routine asks of its frame.
-#[derive(Drop)]
+#[derive(Clone, Copy)]
 pub struct Request {
     // whether it calls nothing
     pub leaf: bool,
@@ -17,7 +17,7 @@ pub struct Request {
 }
 
 // A frame: a refusal, then 0 for every number and no for `$28`; or 0, 0 and what the frame is. Offsets are from `$sp`.
-#[derive(Drop)]
+#[derive(Clone, Copy)]
 pub struct Layout {
     pub refusal: u32,
     pub place: u32,

@@ -8,7 +8,7 @@ ghost use Rattle.image.specs.Input.{Within};
 use libc::{STDERR_FILENO, STDIN_FILENO, STDOUT_FILENO};
 
 // What became of reading: so many bytes lie at the start of the buffer, or a read failed.
-#[derive(Drop)]
+#[derive(Clone, Copy)]
 enum Input {
     Bytes(usize),
     Failed,

@@ -1,10 +1,11 @@
 // The kinds of a list: what a kind byte means, in every convention.
 #![tactic(auto)]
+
 ghost use Rattle.std.specs.Prelude.{◌≡◌};
 ghost use Rattle.kinds.specs.Kinds.{class_number, is, kind_of};
 
 // The classes of kinds, by how they are treated.
-#[derive(Drop)]
+#[derive(Clone, Copy)]
 pub enum Class {
     Unknown,
     Marker,
@@ -17,7 +18,7 @@ pub enum Class {
 }
 
 // What a kind byte means: the bytes of its body, its alignment, its class.
-#[derive(Drop)]
+#[derive(Clone, Copy)]
 pub struct Kind {
     pub size: usize,
     pub alignment: usize,

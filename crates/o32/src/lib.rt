@@ -5,7 +5,7 @@ use kinds::Kind;
 use rules::Prefix;
 
 // What placement keeps of the arguments before.
-#[derive(Drop)]
+#[derive(Clone, Copy)]
 pub struct State {
     // what the rules on lists keep
     pub prefix: Prefix,
@@ -16,7 +16,7 @@ pub struct State {
 }
 
 // Where an argument goes: its offset, and its floating register or 0.
-#[derive(Drop)]
+#[derive(Clone, Copy)]
 pub struct Placement {
     pub kind: Kind,
     pub offset: usize,

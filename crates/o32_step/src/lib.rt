@@ -16,7 +16,7 @@ use o32::{Placement, State};
 
 // What one record answers: a refusal's number, and the number of the argument that the record is or would be, from 1, or 0 where
 // it is none; or this argument's number, the record's kind and the state after it.
-#[derive(Drop)]
+#[derive(Clone, Copy)]
 pub enum Record {
     Refused(u32, usize),
     Taken {

@@ -9,7 +9,7 @@ use answers::Answer;
 
 // What a list or a signature answers: the first refusal, its place and its argument's number, or the length of the list and of its
 // image.
-#[derive(Drop)]
+#[derive(Clone, Copy)]
 pub enum Measured {
     Refused {
         number: u32,
@@ -23,7 +23,7 @@ pub enum Measured {
 }
 
 // Whether all words are proper promotions, or the place of the first kind whose word is not, and its argument's number.
-#[derive(Drop)]
+#[derive(Clone, Copy)]
 pub enum Checked {
     Proper,
     Improper { place: usize, argument: usize },

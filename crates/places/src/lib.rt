@@ -1,5 +1,6 @@
 // Bytes of one slice into another.
 #![tactic(auto)]
+
 ghost use Rattle.std.specs.Prelude.{◌≡◌, ◌+◌, ◌≤◌, min, drop, length, take};
 ghost use Rattle.places.specs.Places.{put, run};
 

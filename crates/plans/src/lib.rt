@@ -2,7 +2,7 @@
 #![tactic(auto)]
 
 // An entry of a plan. Request (vii) of document 02: "A placement is the kind, the offset and the floating register or 0."
-#[derive(Drop)]
+#[derive(Clone, Copy)]
 pub struct Entry {
     // the kind byte
     pub kind: u8,
@@ -13,7 +13,7 @@ pub struct Entry {
 }
 
 // "A plan holds up to 32 placements with their count and the area size; entries past the count are zero."
-#[derive(Drop)]
+#[derive(Clone, Copy)]
 pub struct Plan {
     pub entries: [Entry; 32],
     pub count: u32,
@@ -21,7 +21,7 @@ pub struct Plan {
 }
 
 // What `make_plan` answers: a refusal, its place, its argument's number and a plan that is all zero; or 0, 0, 0 and the plan.
-#[derive(Drop)]
+#[derive(Clone, Copy)]
 pub struct PlanAnswer {
     pub refusal: u32,
     pub place: usize,

@@ -2,7 +2,7 @@
 #![tactic(auto)]
 
 // What a check answers: a refusal and its place, then 0; or 0, 0 and the verdict.
-#[derive(Drop)]
+#[derive(Clone, Copy)]
 pub struct Verdict {
     pub refusal: u32,
     pub place: u32,

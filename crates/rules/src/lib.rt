@@ -1,5 +1,6 @@
 // The rules on lists that every convention has: what is kept of the records before, refusals 2 and 3, and the argument's number.
 #![tactic(auto)]
+
 ghost use Rattle.std.specs.Prelude.{◌||◌, ◌≡◌, ◌≤◌};
 ghost use Rattle.kinds.specs.declared.Class.TheVariants.{Pointer};
 ghost use Rattle.kinds.specs.Kinds.{is};
@@ -8,7 +9,7 @@ ghost use Rattle.rules.specs.Rules.{argument, arguments_most, extend, full, misp
 use kinds::{Class, Kind};
 
 // What the rules keep of the records before one.
-#[derive(Drop)]
+#[derive(Clone, Copy)]
 pub struct Prefix {
     // how many arguments there are, the return pointer counted
     pub count: usize,

@@ -1,5 +1,6 @@
 // Text for standard output: hex digits, the words of an image, and the line of a refusal.
 #![tactic(auto)]
+
 ghost use Rattle.std.specs.Prelude.{◌++◌, ◌≡◌, ◌%◌, ◌+◌, ◌/◌, ◌<◌, ◌≤◌, length, take};
 ghost use Rattle.std.proofs.Math.Seq.{paste};
 ghost use Rattle.text.specs.Text.{stored_length, decimal, hex_digit, image_text, line_at, refusal_text, stored};

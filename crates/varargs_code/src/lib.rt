@@ -16,7 +16,7 @@ use kinds::{Class, Kind};
 use passes::{Checked, Measured};
 
 // Where a walk starts: the place of the first kind after the marker, and the end of the last argument before it.
-#[derive(Drop)]
+#[derive(Clone, Copy)]
 enum Start {
     Unmarked,
     Marked { place: usize, pointer: usize },
