@@ -26,7 +26,7 @@ pub loop-at-preserved : goal.loop-at-preserved
 loop-at-preserved c =
     let l = c.loop-at in
     let word = c.word_at-word in
-    (omega arith, sym (instructions_blank _ l.at word.result (omega arith) word.ensures c.if-word-ne0.false) ∙ l.invariant.1)
+    (omega arith, sym (instructions_blank _ l.at word.result (omega arith) word.ensures (omega arith)) ∙ l.invariant.1)
 
 pub returns : goal.returns
 returns c =
