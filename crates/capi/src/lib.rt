@@ -1,5 +1,6 @@
 // The proved functions for C. A slice is a pointer and a length there; each answer is a struct of 32-bit numbers, by value.
 #![tactic(auto)]
+
 ghost use Rattle.std.specs.Prelude.{◌≡◌, ◌≤◌, length};
 ghost use Rattle.o32.specs.O32.{O32};
 ghost use Rattle.answers.specs.Outcomes.{answer_of, buffer_of};

@@ -1,0 +1,13 @@
+-- `o32_read` meets its contract: the reader's answer in 32 bits.
+use lib.ListN.{length}
+use Rattle.device.specs.declared.Device.{Device}
+use Rattle.o32.specs.O32.{O32}
+use Rattle.carried.specs.Convention.{read_into}
+use Rattle.capi.proofs.Bounds.{read_fits, handed}
+use borrow.Author.Rules.{rules}
+use Rattle.capi.proofs.o32_read.Goals as goal
+
+pub narrowed-requires : goal.narrowed-requires
+narrowed-requires c =
+    let s = c.args in
+    read_fits c.as_device.result s.signature.now s.image.now (length s.list.now) c.read-answer.ensures.answer
