@@ -2,6 +2,7 @@
 // unit, or its refusal. There is no exit status: where the list could not be read, and nothing is printed, or the text could not be
 // written, a line on standard error says so.
 #![tactic(auto)]
+
 ghost use Rattle.std.specs.Prelude.{length};
 ghost use Rattle.image.specs.Input.{Within};
 
@@ -10,6 +11,7 @@ use std::rt::Stdin;
 
 // Where the text of a list goes, and what is said of a list or a text that failed.
 const STDOUT_FILENO: i32 = 1;
+
 const STDERR_FILENO: i32 = 2;
 
 // What became of reading: so many bytes lie at the start of the buffer, or a read failed.
