@@ -1,5 +1,6 @@
 // The lines of a text of cases, and the numbers and bytes in them.
 #![tactic(auto)]
+
 ghost use Rattle.std.specs.Prelude.{◌≡◌, ◌+◌, ◌<◌, ◌≤◌, ◌⊎◌, length, drop};
 ghost use Rattle.std.proofs.Math.Seq.{paste};
 ghost use Rattle.case_input.specs.Lines.{device_of, digit_of, field, field_length, letter_of, number_at, number_of, place_of, require_digit, room_of, series, series_at, series_by_sign, series_of};

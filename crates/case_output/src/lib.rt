@@ -4,12 +4,15 @@
 // Of what is printed the language has nothing to promise, so the functions that print answer how long the text is that they write, or
 // where the line ends.
 #![tactic(auto)]
+
 ghost use Rattle.std.specs.Prelude.{cond, ◌||◌, [], ◌∷◌, ◌++◌, ◌≡◌, ◌%◌, ◌*◌, ◌+◌, ◌<◌, ◌≤◌, eqb, ltb, drop, length, replicate, take};
 ghost use Rattle.case_input.specs.Lines.{place_of};
 ghost use Rattle.case_output.specs.AnswerText.{answer_text, byte_text, bytes_text, is_clear, is_kept, kept_text, refusal_part};
 
 use answers::Answer;
-use libc::STDOUT_FILENO;
+
+// Where the text of the cases goes.
+const STDOUT_FILENO: i32 = 1;
 
 // What every byte of a case's buffer is before the call.
 const FILL: u8 = 0xA5;

@@ -16,13 +16,18 @@
 // epilogue the refusal, or the words that were written; their length in bytes, and whether every other byte of the buffer is kept.
 // The answer to check is the refusal, if there is one, and the verdict.
 #![tactic(auto)]
+
 ghost use Rattle.std.specs.Prelude.{◌≤◌, length};
 
 use answers::Answer;
 use device::Device;
 use frame::{Layout, Request};
-use libc::{STDIN_FILENO, STDOUT_FILENO};
 use prologues::Verdict;
+
+// Where the text of cases comes from, and where the answers go.
+const STDIN_FILENO: i32 = 0;
+
+const STDOUT_FILENO: i32 = 1;
 
 // A text to standard output. Of what is printed the language has nothing to promise.
 fn print(text: &[u8]) {

@@ -17,10 +17,15 @@
 // to fill and other is the refusal, or the bytes that were written, 16 to a line; then their number, and whether every other byte of
 // the buffer is kept. The answer to changed is how many of the 98 plans were refused 20.
 #![tactic(auto)]
+
 ghost use Rattle.std.specs.Prelude.{◌≤◌, length};
 
 use device::Device;
-use libc::{STDIN_FILENO, STDOUT_FILENO};
+
+// Where the text of cases comes from, and where the answers go.
+const STDIN_FILENO: i32 = 0;
+
+const STDOUT_FILENO: i32 = 1;
 
 // A text to standard output. Of what is printed the language has nothing to promise.
 fn print(text: &[u8]) {

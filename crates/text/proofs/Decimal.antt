@@ -31,6 +31,8 @@ more_digits k most n h e =
     simp (le-ltb n 10 h, spelled (n % 10) d, e)
 
 fewest_digits : (r most n : ℕ) → n < 10 ^ suc r → (0 < r → 10 ^ r ≤ n) → n < most → D.last_digits 10 (suc r) n ≡ digits most n
+fewest_digits zero zero n above below h = elim h [ ]
+fewest_digits (suc r) zero n above below h = elim h [ ]
 fewest_digits zero (suc most) n above below h = last_digit most n above
 fewest_digits (suc r) (suc most) n above below h =
     let a : n < 10 ^ suc r * 10 = rw pow-suc at above in

@@ -1,11 +1,8 @@
-use mathlib.Core.Path.{◌≡◌, refl, sym, ap, ◌∙◌}
-use mathlib.Core.List.{List, ◌++◌}
-use Prim.Native.Nat.{ℕ, ◌*◌, ◌-◌, ◌/◌, ◌≤◌}
-use native.Mathlib.Omega.{arith}
-use native.Mathlib.Numerals.{add-one}
+use mathlib.Core.Path.{◌≡◌}
+use Prim.Native.Nat.{◌-◌, ◌≤◌}
 use lib.ListN.{length}
-use Rattle.text.specs.Text.{lines, image_text}
-use Rattle.text.proofs.Written.{overlay, paste_overlay-step, lines-length, short_stored, fitting_stored}
+use Rattle.text.specs.Text.{lines}
+use Rattle.text.proofs.Written.{overlay}
 use Rattle.text.proofs.image_text.Given as goal
 
 -- `image_text` meets its contract: so far the buffer has the lines of the first i words over its start.
