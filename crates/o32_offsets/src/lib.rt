@@ -1,5 +1,6 @@
 // Rules 1 and 2: the bytes of an argument after promotion, and the next multiple of an alignment.
 #![tactic(auto)]
+
 ghost use Rattle.std.specs.Prelude.{◌≡◌, ◌≤◌};
 ghost use Rattle.words.specs.Words.{up};
 ghost use Rattle.o32_offsets.specs.Offsets.{Alignment, width};

@@ -1,5 +1,6 @@
 // One record of a list or a signature: its refusals, where its argument goes, and the state after it.
 #![tactic(auto)]
+
 ghost use Rattle.std.specs.Prelude.{cond, ◌≡◌, ◌≤◌, eqb};
 ghost use Rattle.device.specs.declared.Device.{Device};
 ghost use Rattle.kinds.specs.declared.Class.TheVariants.{Float};

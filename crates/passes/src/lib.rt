@@ -1,5 +1,6 @@
 // The passes of a writer and a reader of any convention: what they find, and the answers made of it.
 #![tactic(auto)]
+
 ghost use Rattle.std.specs.Prelude.{[], ◌≡◌};
 ghost use Rattle.answers.specs.Outcomes.{answer_of, done};
 ghost use Rattle.carried.specs.Convention.{body_length};
