@@ -1,5 +1,6 @@
 // Reading one argument out of a call image.
 #![tactic(auto)]
+
 ghost use Rattle.std.specs.Prelude.{map, ◌≡◌, ◌+◌, ◌≤◌, length};
 ghost use Rattle.words.specs.Words.{body, proper};
 ghost use Rattle.places.specs.Places.{gather, put, run};

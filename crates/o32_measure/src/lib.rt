@@ -1,5 +1,6 @@
 // The first walk over the records of a list or a signature. What is refused, and how long the image is, is the same on every device.
 #![tactic(auto)]
+
 ghost use Rattle.std.specs.Prelude.{false, true, ◌≡◌, ◌≤◌};
 ghost use Rattle.device.specs.declared.Device.{Device};
 ghost use Rattle.carried.specs.Convention.{scan};

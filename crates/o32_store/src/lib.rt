@@ -1,6 +1,7 @@
 // The register block, an array of eight words passed and returned by value, and the stores of one argument into it and into
 // the area.
 #![tactic(auto)]
+
 ghost use Rattle.std.specs.Prelude.{map, ◌≡◌, ◌%◌, ◌+◌, ◌-◌, ◌<◌, ◌≤◌, drop, length, set, take};
 ghost use Rattle.words.specs.Words.{bytes_of, promote, to_word, bytes_of_words};
 ghost use Rattle.places.specs.Places.{put, run};

@@ -1,0 +1,17 @@
+-- `o32_store::put_argument` meets its contract, by the argument's register and class.
+use mathlib.Core.Path.{◌≡◌}
+use mathlib.Core.Bool.{true, false}
+use native.Mathlib.Omega.{arith}
+use lib.ListN.{length, take, drop}
+use Rattle.o32_store.proofs.Floats.{float_whole}
+use Rattle.o32_laws.proofs.Fitting.{Worded, Plain, signed_kind, unsigned_kind, plain_kind, body_fits, word_fits, plain_fits}
+use Rattle.o32_store.proofs.Arguments.{word-argument, plain_argument, float_argument}
+use borrow.Author.Rules.{rules}
+use Rattle.o32_store.proofs.put_argument.Goals as goal
+
+pub returns-then-register-ne0 : goal.returns-then-register-ne0
+returns-then-register-ne0 c =
+    let f = c.requires.fit.floating (omega arith) in
+    let h : length c.args.block ≡ 8 = omega (arith, c.well_formed) in
+    float_argument c.args.place _ _ _ c.if-register-ne0.true f.0
+    (float_whole c.args.block c.put_float.result c.args.out.now _ h f.1 c.put_float.ensures)
