@@ -1,5 +1,6 @@
 // The passes of the reader: refusal 8, and the list.
 #![tactic(auto)]
+
 ghost use Rattle.std.specs.Prelude.{false, ◌≡◌, ◌≤◌, ℕ, length};
 ghost use Rattle.answers.specs.Outcomes.{Outcome, buffer_of, done, over};
 ghost use Rattle.carried.specs.Image.{checked, reading};

@@ -1,5 +1,6 @@
 // The passes of the writer over a list that was accepted: zeros in the area, each argument at its place, the registers last.
 #![tactic(auto)]
+
 ghost use Rattle.std.specs.Prelude.{◌++◌, true, ◌≡◌, ◌-◌, ◌≤◌, drop, length, replicate};
 ghost use Rattle.places.specs.Places.{put};
 ghost use Rattle.carried.specs.Image.{carried, image, promoted_bytes};

@@ -6,7 +6,7 @@ use Rattle.o32_load.proofs.get_body.Goals as goal
 
 pub returns-then-size-width : goal.returns-then-size-width
 returns-then-size-width c =
-    rw (word-body c.args.place c.args.image.now c.requires.fit _ _ c.position.ensures c.width_of_lem.ensures c.if-size-width.true c.if-register-ne0.false) c.copy.ensures
+    rw (word-body c.args.place c.args.image.now c.requires.fit _ _ c.position.ensures c.width_of-width.ensures c.if-size-width.true c.if-register-ne0.false) c.copy.ensures
 
 pub returns : goal.returns
 returns c =

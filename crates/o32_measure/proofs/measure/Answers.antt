@@ -6,13 +6,6 @@ use Rattle.o32_measure.proofs.Measures.{Measuring, measure_starts, measure_bound
 use borrow.Author.Rules.{rules}
 use Rattle.o32_measure.proofs.measure.Goals as goal
 
--- the record that was taken is inside the list
-turn : (c : tie.After-body-length invariant-loop decreases-loop) → c.before.before.before.before.before.before.before.before.loop.at + 1 + c.body-length.result ≤ length c.before.before.before.before.before.before.before.before.before.before.before.args.list.now
-turn c =
-    let a = c.before.before.before in
-    let l = a.before.before.before.before.before in
-    measure_inside _ _ _ _ _ l.loop.invariant a.before.before.before.before.loop-test.true a.before.before.take.result a.before.before.take.ensures _ _ _ a.answer.given.1 _ c.body-length.ensures
-
 pub loop-at-init : goal.loop-at-init
 loop-at-init c = search (measure_starts, rules)
 
@@ -26,10 +19,12 @@ pub overflow_add-length : goal.overflow_add-length
 overflow_add-length c = omega (arith, measure_bounds _ _ _ _ _ c.loop-at.invariant)
 
 pub overflow_add-length-in-loop-at : goal.overflow_add-length-in-loop-at
-overflow_add-length-in-loop-at c = omega (arith, measure_bounds _ _ _ _ _ c.loop-at.invariant, measure_size _ _ _ _ _ c.loop-at.invariant c.loop-at-test.true c.take-answer.result c.take-answer.ensures _ _ _ c.answer-1.given.1)
+overflow_add-length-in-loop-at c = omega (arith, measure_bounds _ _ _ _ _ c.loop-at.invariant, measure_size _ _ _ _ _ c.loop-at.invariant c.loop-at-test.true c.take-answer.result c.take-answer.ensures _ _ _ c.in-Taken.is)
 
 pub overflow_add-at-in-loop-at : goal.overflow_add-at-in-loop-at
-overflow_add-at-in-loop-at c = omega (arith, turn c)
+overflow_add-at-in-loop-at c =
+    -- the record that was taken is inside the list
+    omega (arith, measure_inside _ _ _ _ _ c.loop-at.invariant c.loop-at-test.true c.take-answer.result c.take-answer.ensures _ _ _ c.in-Taken.is _ c.body_length.ensures)
 
 pub loop-at-preserved : goal.loop-at-preserved
 loop-at-preserved c = search (measure_turn, rules)

@@ -1,0 +1,36 @@
+-- `check` meets its contract: what is found from each kind on is what the whole signature finds.
+use native.Mathlib.Omega.{arith}
+use mathlib.Core.Bool.{false}
+use Prim.Native.Nat.{◌-◌}
+use lib.ListN.{length}
+use borrow.Author.Tests.{not-true, not-false}
+use Rattle.carried.specs.Image.{checked}
+use Rattle.carried.specs.Convention.{scan}
+use Rattle.passes.specs.Passes.{placed_in}
+use Rattle.passes.proofs.Reading.{Checking, check_starts, check_ends}
+use Rattle.o32.specs.O32.{O32}
+use Rattle.o32_laws.proofs.Premises.{O32-premises}
+use Rattle.o32_step.proofs.Ahead.{ahead_few, ahead_placeable, ahead_fit, ahead_placed}
+use Rattle.o32_reader.proofs.Turns.{word_improper, word-proper}
+use borrow.Author.Rules.{rules}
+use Rattle.o32_reader.proofs.check.Goals as goal
+
+pub loop-at-init : goal.loop-at-init
+loop-at-init c = check_starts (O32-premises c.args.device) c.start-st.ensures c.requires
+
+pub placement_of-here-requires : goal.placement_of-here-requires
+placement_of-here-requires c = ahead_placeable c.args.device c.loop-at.invariant.ahead c.kind_of-kind.ensures
+
+pub is_proper-requires : goal.is_proper-requires
+is_proper-requires c =
+    ahead_fit c.args.device c.loop-at.invariant.ahead c.kind_of-kind.ensures c.placement_of-here.ensures c.loop-at-test.true _ (omega arith)
+
+pub returns-then-not-is_proper : goal.returns-then-not-is_proper
+returns-then-not-is_proper c =
+    word_improper c.args.device c.loop-at.invariant c.loop-at-test.true c.kind_of-kind.ensures c.placement_of-here.ensures c.is_proper.ensures
+    (not-true _ c.if-not-is_proper.true) c.argument_of.ensures
+
+pub loop-at-preserved : goal.loop-at-preserved
+loop-at-preserved c =
+    word-proper c.args.device c.loop-at.invariant c.loop-at-test.true c.kind_of-kind.ensures c.placement_of-here.ensures c.is_proper.ensures
+    (not-false _ c.if-not-is_proper.false) c.advance-st.ensures

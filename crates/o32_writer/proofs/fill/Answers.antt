@@ -1,0 +1,28 @@
+-- `fill` meets its contract: at each turn, the bytes still to be stored make of the image what the whole list makes of it.
+use native.Mathlib.Omega.{arith}
+use mathlib.Core.Path.{◌≡◌, refl}
+use mathlib.Core.Bool.{true}
+use Prim.Native.Nat.{◌+◌, ◌-◌, ◌≤◌}
+use lib.ListN.{length, replicate}
+use Rattle.places.specs.Places.{put}
+use Rattle.carried.specs.Image.{carried, promoted_bytes}
+use Rattle.carried.specs.Convention.{scan}
+use Rattle.passes.specs.Passes.{placed_in}
+use Rattle.passes.proofs.Filling.{Filling, fill_starts, fill_ends}
+use Rattle.o32.specs.O32.{O32}
+use Rattle.o32_laws.proofs.Premises.{O32-premises}
+use Rattle.o32_store.specs.Block.{whole}
+use Rattle.o32_step.proofs.Ahead.{ahead_placeable, ahead_fit, ahead_placed}
+use Rattle.o32_writer.proofs.Filling.{list_short, body_inside, argument-stored}
+use borrow.Author.Rules.{rules}
+use Rattle.o32_writer.proofs.fill.Goals as goal
+
+pub loop-at-init : goal.loop-at-init
+loop-at-init c = (refl, fill_starts (O32-premises c.args.device) _ c.start-st.ensures c.requires.admitted)
+
+pub placement_of-placement-requires : goal.placement_of-placement-requires
+placement_of-placement-requires c = ahead_placeable c.args.device c.loop-at.invariant.1.ahead c.kind_of-kind.ensures
+
+pub loop-at-preserved : goal.loop-at-preserved
+loop-at-preserved c =
+    (search rules, argument-stored c.args.device c.loop-at.invariant.1 c.loop-at-test.true c.kind_of-kind.ensures c.placement_of-placement.ensures c.advance-st.ensures (omega arith) c.put_argument-changed.ensures)
