@@ -3,7 +3,6 @@ use native.Mathlib.Omega.{arith}
 use mathlib.Core.Bool.{false}
 use Prim.Native.Nat.{◌-◌}
 use lib.ListN.{length}
-use borrow.Author.Tests.{not-true, not-false}
 use Rattle.carried.specs.Image.{checked}
 use Rattle.carried.specs.Convention.{scan}
 use Rattle.passes.specs.Passes.{placed_in}
@@ -28,9 +27,9 @@ is_proper-requires c =
 pub returns-then-not-is_proper : goal.returns-then-not-is_proper
 returns-then-not-is_proper c =
     word_improper c.args.device c.loop-at.invariant c.loop-at-test.true c.kind_of-kind.ensures c.placement_of-here.ensures c.is_proper.ensures
-    (not-true _ c.if-not-is_proper.true) c.argument_of.ensures
+    c.if-not-is_proper.true c.argument_of.ensures
 
 pub loop-at-preserved : goal.loop-at-preserved
 loop-at-preserved c =
     word-proper c.args.device c.loop-at.invariant c.loop-at-test.true c.kind_of-kind.ensures c.placement_of-here.ensures c.is_proper.ensures
-    (not-false _ c.if-not-is_proper.false) c.advance-st.ensures
+    c.if-not-is_proper.false c.advance-st.ensures
