@@ -1,5 +1,6 @@
 // The writer and the reader: an argument list becomes a call image in a lent buffer, and an image its list again.
 #![tactic(auto)]
+
 ghost use Rattle.std.specs.Prelude.{◌≡◌, length};
 ghost use Rattle.answers.specs.Outcomes.{answer_of, buffer_of};
 ghost use Rattle.carried.specs.Convention.{read_into, write_into};

@@ -1,6 +1,7 @@
 // The plan of a list or a signature, and an image of a list whose own plan is known. Between our own crates: `make_plan` and `fill` are
 // made of these.
 #![tactic(auto)]
+
 ghost use Rattle.std.specs.Prelude.{true, ◌≡◌, ◌≤◌, length};
 ghost use Rattle.answers.specs.Outcomes.{answer_of, buffer_of};
 ghost use Rattle.carried.specs.Convention.{scan};
