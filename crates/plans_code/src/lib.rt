@@ -1,5 +1,6 @@
 // Making a plan from a signature, and filling an image from a plan and a list.
 #![tactic(auto)]
+
 ghost use Rattle.std.specs.Prelude.{[], ◌∷◌, false, ◌≡◌, length};
 ghost use Rattle.words.specs.Words.{same};
 ghost use Rattle.answers.specs.Outcomes.{answer_of, buffer_of};

@@ -1,5 +1,6 @@
 // The signature of a list: "the kind bytes alone, in order". It is the same on every device.
 #![tactic(auto)]
+
 ghost use Rattle.std.specs.Prelude.{true, List, ◌≡◌, ◌+◌, ◌≤◌, ℕ, get_or, length};
 ghost use Rattle.device.specs.declared.Device.{Device};
 ghost use Rattle.answers.specs.Outcomes.{answer_of, buffer_of, over};

@@ -1,6 +1,7 @@
 // Reading an image the way a routine with an ellipsis does: `$4` to `$7` lie over their homes, and a pointer walks the argument area
 // from the end of the last argument before the marker on.
 #![tactic(auto)]
+
 ghost use Rattle.std.specs.Prelude.{◌≡◌, ◌+◌, ◌-◌, ◌≤◌, drop, length};
 ghost use Rattle.answers.specs.Outcomes.{answer_of, buffer_of, over};
 ghost use Rattle.words.specs.Words.{up};

@@ -1,0 +1,14 @@
+use Prim.Native.Nat.{◌-◌}
+use native.Mathlib.Omega.{arith}
+use lib.ListN.{length}
+use Rattle.varargs_code.proofs.Seeking.{Seeking, seek_starts, seek_ends, seek_found, seek_near, seek_kind, seek_on, aligned_near}
+use borrow.Author.Rules.{rules}
+use Rattle.varargs_code.proofs.find_start.Given as goal
+
+-- `find_start` meets its contract: what is found from each kind on is what is found in the whole signature.
+-- Assumes nothing.
+abbrev pub invariant-loop-at : goal.invariant-loop-at
+invariant-loop-at l = Seeking l.signature l.pointer l.at
+
+abbrev pub decreases-loop-at : goal.decreases-loop-at
+decreases-loop-at l = length l.signature - l.at
