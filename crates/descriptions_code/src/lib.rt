@@ -1,5 +1,6 @@
 // Structures from descriptions: the size, the alignment and the kind byte, in one pass over the bytes.
 #![tactic(auto)]
+
 ghost use Rattle.std.specs.Prelude.{◌≡◌, ◌*◌, ◌+◌, ◌≤◌, ◌<◌, max, get_or, length};
 ghost use Rattle.words.specs.Words.{up};
 ghost use Rattle.descriptions.specs.Trees.{kind_for, suits};

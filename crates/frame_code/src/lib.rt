@@ -1,5 +1,6 @@
 // Frames: the layout of a request, its prologue and its epilogue.
 #![tactic(auto)]
+
 ghost use Rattle.std.specs.Prelude.{cond, false, map, ◌≡◌, ◌*◌, ◌+◌, ◌≤◌, length};
 ghost use Rattle.std.proofs.lemmas.List.Edits.{sets};
 ghost use Rattle.words.specs.Words.{up, bytes_of_words};

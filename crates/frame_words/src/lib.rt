@@ -1,6 +1,7 @@
 // What a mask names; the `addiu` of a prologue; and instructions on save words, upward into a code buffer: the stores of a prologue or
 // the loads of an epilogue. `op` is the instruction's word with register 0 and offset 0; `swc1`'s is the largest.
 #![tactic(auto)]
+
 ghost use Rattle.std.specs.Prelude.{[], ◌∷◌, map, ◌≡◌, ◌%◌, ◌*◌, ◌+◌, ◌-◌, ◌<◌, ◌≤◌, length};
 ghost use Rattle.std.proofs.lemmas.List.Edits.{sets};
 ghost use Rattle.frame.specs.Masks.{count_below, names};

@@ -1,5 +1,6 @@
 // The check of prologues that others send.
 #![tactic(auto)]
+
 ghost use Rattle.std.specs.Prelude.{not, map, ◌≡◌, ◌<◌, ◌≤◌, eqb, drop, length};
 ghost use Rattle.frame.specs.Frame.{frame_most, frame_of};
 ghost use Rattle.frame.specs.Words.{saves_of, store_word};

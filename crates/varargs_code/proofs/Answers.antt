@@ -10,7 +10,6 @@ use lib.Seq.{drop_at}
 use Rattle.device.specs.declared.Device.{Device}
 use Rattle.answers.specs.declared.Answer.{Answer}
 use Rattle.answers.specs.Outcomes.{done, answer_of}
-use Rattle.kinds.specs.Kinds.{is}
 use Rattle.o32_offsets.specs.Offsets.{lay}
 use Rattle.carried.specs.Convention.{scan}
 use Rattle.passes.specs.declared.Measured.{Measured}

@@ -1,10 +1,7 @@
 use mathlib.Core.Path.{◌≡◌}
 use Prim.Native.Nat.{◌+◌, ◌-◌}
-use native.Mathlib.Omega.{arith}
 use lib.ListN.{length, drop}
 use Rattle.varargs.specs.Varargs.{body_bytes}
-use Rattle.varargs_code.proofs.Seeking.{bytes_on, bytes_end}
-use borrow.Author.Rules.{rules}
 use Rattle.varargs_code.proofs.bodies_length.Given as goal
 
 -- `bodies_length` meets its contract: what was counted, and the bodies still ahead, are the whole.

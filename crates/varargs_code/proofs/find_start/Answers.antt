@@ -1,9 +1,5 @@
 -- `find_start` meets its contract: what is found from each kind on is what is found in the whole signature.
-use Prim.Native.Nat.{◌-◌}
-use native.Mathlib.Omega.{arith}
-use lib.ListN.{length}
-use Rattle.varargs_code.proofs.Seeking.{Seeking, seek_starts, seek_ends, seek_found, seek_near, seek_kind, seek_on, aligned_near}
-use borrow.Author.Rules.{rules}
+use Rattle.varargs_code.proofs.Seeking.{seek_starts, seek_ends, seek_found, seek_near, seek_kind, seek_on, aligned_near}
 use Rattle.varargs_code.proofs.find_start.Goals as goal
 
 pub loop-at-init : goal.loop-at-init

@@ -1,8 +1,6 @@
 use Prim.Native.Nat.{◌-◌}
-use native.Mathlib.Omega.{arith}
 use lib.ListN.{length}
-use Rattle.varargs_code.proofs.Seeking.{Seeking, seek_starts, seek_ends, seek_found, seek_near, seek_kind, seek_on, aligned_near}
-use borrow.Author.Rules.{rules}
+use Rattle.varargs_code.proofs.Seeking.{Seeking}
 use Rattle.varargs_code.proofs.find_start.Given as goal
 
 -- `find_start` meets its contract: what is found from each kind on is what is found in the whole signature.

@@ -1,20 +1,16 @@
 -- `take_bodies` meets its contract: what was taken, and what is still asked for, are the whole walk.
-use mathlib.Core.Path.{◌≡◌, refl, ◌∙◌}
-use Prim.Native.Nat.{◌-◌}
+use mathlib.Core.Path.{refl, ◌∙◌}
 use native.Mathlib.Omega.{arith}
-use lib.ListN.{length, drop}
-use Rattle.varargs.specs.Walking.{spilled, walk_from}
 use Rattle.varargs_code.proofs.Seeking.{aligned_near}
-use Rattle.varargs_code.proofs.Taking.{Taking, take_starts, take_ends, take_near, take_kind, take_inside, take_on}
-use borrow.Author.Rules.{rules}
+use Rattle.varargs_code.proofs.Taking.{take_starts, take_ends, take_near, take_kind, take_inside, take_on}
 use Rattle.varargs_code.proofs.take_bodies.Goals as goal
 
 pub loop-at-init : goal.loop-at-init
-loop-at-init c = (refl, take_starts _ c.requires.within.0 c.requires.within.1)
+loop-at-init c = (refl, take_starts _ c.requires.within c.requires.signature_in_bounds)
 
 pub get_plain-requires : goal.get_plain-requires
 get_plain-requires c = let i = take_inside c.loop-at.invariant.1 c.loop-at-test.true c.kind_of-kind.ensures in
-    record { in_bounds = (omega (arith, c.requires.in_bounds), omega (arith, i, c.width_of_lem.ensures, c.align_up-aligned.ensures, c.requires.in_bounds)); size_in_bounds = omega (arith, i, c.loop-at.invariant.0) }
+    record { in_bounds = (omega (arith, c.requires.in_bounds), omega (arith, i, c.width_of-width.ensures, c.align_up-aligned.ensures, c.requires.in_bounds)); size_in_bounds = omega (arith, i, c.loop-at.invariant.0) }
 
 pub step_over-pointer-requires : goal.step_over-pointer-requires
 step_over-pointer-requires c =
@@ -23,8 +19,9 @@ step_over-pointer-requires c =
 
 pub loop-at-preserved : goal.loop-at-preserved
 loop-at-preserved c = (
-  c.get_plain.auto.1.1.0 ∙ c.loop-at.invariant.0,
-  take_on c.loop-at.invariant.1 c.loop-at-test.true c.kind_of-kind.ensures c.requires.in_bounds.0 c.align_up-aligned.ensures c.width_of_lem.ensures c.step_over-pointer.ensures c.get_plain.ensures,
+  c.get_plain.auto.out ∙ c.loop-at.invariant.0,
+  take_on c.loop-at.invariant.1 c.loop-at-test.true c.kind_of-kind.ensures c.requires.in_bounds.0 c.align_up-aligned.ensures c.width_of-width.ensures c.step_over-pointer.ensures c.get_plain.ensures,
+)
 
 pub returns : goal.returns
 returns c = take_ends c.loop-at.invariant.1 c.loop-at-test.false

@@ -1,11 +1,8 @@
-use mathlib.Core.Path.{◌≡◌, refl, ◌∙◌}
+use mathlib.Core.Path.{◌≡◌}
 use Prim.Native.Nat.{◌-◌}
-use native.Mathlib.Omega.{arith}
 use lib.ListN.{length, drop}
 use Rattle.varargs.specs.Walking.{spilled, walk_from}
-use Rattle.varargs_code.proofs.Seeking.{aligned_near}
-use Rattle.varargs_code.proofs.Taking.{Taking, take_starts, take_ends, take_near, take_kind, take_inside, take_on}
-use borrow.Author.Rules.{rules}
+use Rattle.varargs_code.proofs.Taking.{Taking}
 use Rattle.varargs_code.proofs.take_bodies.Given as goal
 
 -- `take_bodies` meets its contract: what was taken, and what is still asked for, are the whole walk.
