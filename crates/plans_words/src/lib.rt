@@ -1,6 +1,7 @@
 // Plans as 98 words: of each entry the kind, the offset and the register, then the count, then the area size. For callers that share
 // no struct with this code.
 #![tactic(auto)]
+
 ghost use Rattle.std.specs.Prelude.{List, [], ◌∷◌, ◌≡◌, ◌*◌, ◌-◌, ◌≤◌, drop, length, replicate, take};
 ghost use Rattle.words.specs.Words.{same};
 ghost use Rattle.answers.specs.Outcomes.{answer_of, buffer_of, over};

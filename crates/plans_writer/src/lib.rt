@@ -1,6 +1,7 @@
 // An image of a list that is sent once, for callers that have the list alone: its signature, the plan of that, and an image by the
 // plan. It answers what the writer answers.
 #![tactic(auto)]
+
 ghost use Rattle.std.specs.Prelude.{◌≡◌, length};
 ghost use Rattle.answers.specs.Outcomes.{answer_of, buffer_of};
 ghost use Rattle.carried.specs.Convention.{write_into};

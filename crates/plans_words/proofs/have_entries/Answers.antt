@@ -1,0 +1,17 @@
+-- `have_entries` meets its contract: the entries still to be compared decide.
+use mathlib.Core.Path.{◌∙◌, sym}
+use Prim.Native.Nat.{◌-◌}
+use native.Mathlib.Omega.{arith}
+use borrow.Author.Rules.{rules}
+use borrow.Author.Tests.{not-true, not-false}
+use Rattle.plans_words.proofs.Comparing.{Comparing, compare_starts, compare_differs, compare_turn, compare_ends}
+use Rattle.plans_words.proofs.have_entries.Goals as goal
+
+pub returns-then-not-is_entry : goal.returns-then-not-is_entry
+returns-then-not-is_entry c = compare_differs (omega (arith, c.well_formed)) c.requires c.loop-i.invariant c.loop-i-test.true (sym c.is_entry.ensures ∙ c.if-not-is_entry.true)
+
+pub loop-i-preserved : goal.loop-i-preserved
+loop-i-preserved c = compare_turn (omega (arith, c.well_formed)) c.requires c.loop-i.invariant c.loop-i-test.true (sym c.is_entry.ensures ∙ c.if-not-is_entry.false)
+
+pub returns : goal.returns
+returns c = compare_ends (omega (arith, c.well_formed)) c.requires c.loop-i.invariant c.loop-i-test.false
