@@ -15,7 +15,7 @@ use Rattle.device.specs.declared.Device.{Device}
 use Rattle.device.specs.declared.Device.TheVariants.{Fpu, NoFpu}
 use Rattle.carried.specs.Image.{Placed}
 use Rattle.carried.specs.Convention.{complete, scan}
-use Rattle.carried.proofs.Walks.{Walk, end, one, walk_of}
+use Rattle.carried.proofs.Walks.{Walk, one, walk_of}
 use Rattle.kinds.specs.declared.Class.TheVariants.{Marker, Float}
 use Rattle.kinds.specs.declared.Kind.{Kind}
 use Rattle.o32.specs.declared.State.{State}

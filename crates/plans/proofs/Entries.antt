@@ -19,7 +19,7 @@ use Rattle.o32_offsets.specs.Offsets.{offset, lay_one, lay}
 use Rattle.o32_offsets.proofs.Laying.{end_joined}
 use Rattle.o32.specs.declared.State.{State}
 use Rattle.o32.specs.declared.Placement.{Placement}
-use Rattle.o32.specs.O32.{O32, advance, start, area}
+use Rattle.o32.specs.O32.{O32, advance, start}
 use Rattle.o32_laws.specs.Refusing.{arguments_in}
 use Rattle.o32_laws.proofs.Laws.{O32-laws}
 use Rattle.o32_laws.proofs.Steps.{Stepped, step-described}

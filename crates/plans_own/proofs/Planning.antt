@@ -21,7 +21,7 @@ use Rattle.passes.proofs.Ahead.{ahead_starts, ahead_ends, ahead_stepped, ahead_i
 use Rattle.o32.specs.declared.State.{State}
 use Rattle.o32.specs.declared.Placement.{Placement}
 use Rattle.o32.specs.O32.{O32, advance, placement, start, end_most, area, register}
-use Rattle.o32_offsets.specs.Offsets.{offset, lay}
+use Rattle.o32_offsets.specs.Offsets.{lay}
 use Rattle.o32_laws.proofs.Laws.{O32-laws}
 use Rattle.o32_laws.proofs.Steps.{step-described, ends_within, register-floats}
 use Rattle.o32_laws.proofs.Bounds.{not_full, scan_bound}

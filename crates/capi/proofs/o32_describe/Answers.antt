@@ -1,8 +1,5 @@
 -- `o32_describe` meets its contract: the structure's numbers in 32 bits.
-use mathlib.Core.Path.{ap, ◌∙◌}
-use Rattle.capi.specs.Numbers.{structure_numbers}
 use Rattle.capi.proofs.Bounds.{structure_fits}
-use borrow.Author.Rules.{rules}
 use Rattle.capi.proofs.o32_describe.Goals as goal
 
 pub structure_numbers-requires : goal.structure_numbers-requires

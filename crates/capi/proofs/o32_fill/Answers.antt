@@ -1,9 +1,6 @@
 -- `o32_fill` meets its contract: the answer of `fill` in 32 bits.
 use lib.ListN.{length}
-use Rattle.device.specs.declared.Device.{Device}
-use Rattle.plans.specs.Plans.{fill_into}
-use Rattle.capi.proofs.Bounds.{fill_fits, handed}
-use borrow.Author.Rules.{rules}
+use Rattle.capi.proofs.Bounds.{fill_fits}
 use Rattle.capi.proofs.o32_fill.Goals as goal
 
 pub narrowed-requires : goal.narrowed-requires

@@ -1,9 +1,6 @@
 -- `o32_make_plan` meets its contract: the answer of `make_plan` in 32 bits.
 use lib.ListN.{length}
-use Rattle.device.specs.declared.Device.{Device}
-use Rattle.plans.specs.Plans.{make_into}
-use Rattle.capi.proofs.Bounds.{make_fits, handed}
-use borrow.Author.Rules.{rules}
+use Rattle.capi.proofs.Bounds.{make_fits}
 use Rattle.capi.proofs.o32_make_plan.Goals as goal
 
 pub narrowed-requires : goal.narrowed-requires

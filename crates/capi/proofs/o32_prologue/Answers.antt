@@ -1,11 +1,6 @@
 -- `o32_prologue` meets its contract: the answer of the prologue of the request that C hands over, in 32 bits.
-use mathlib.Core.Path.{ap₂}
 use lib.ListN.{length}
-use Rattle.device.specs.declared.Device.{Device}
-use Rattle.frame.specs.declared.Request.{Request}
-use Rattle.frame_code.specs.Code.{prologue_into}
-use Rattle.capi.proofs.Bounds.{prologue_fits, handed}
-use borrow.Author.Rules.{rules}
+use Rattle.capi.proofs.Bounds.{prologue_fits}
 use Rattle.capi.proofs.o32_prologue.Goals as goal
 
 pub narrowed-requires : goal.narrowed-requires

@@ -1,10 +1,6 @@
 -- `o32_read` meets its contract: the reader's answer in 32 bits.
 use lib.ListN.{length}
-use Rattle.device.specs.declared.Device.{Device}
-use Rattle.o32.specs.O32.{O32}
-use Rattle.carried.specs.Convention.{read_into}
-use Rattle.capi.proofs.Bounds.{read_fits, handed}
-use borrow.Author.Rules.{rules}
+use Rattle.capi.proofs.Bounds.{read_fits}
 use Rattle.capi.proofs.o32_read.Goals as goal
 
 pub narrowed-requires : goal.narrowed-requires

@@ -1,10 +1,7 @@
 -- `o32_signature` meets its contract, for every device: the answer of `signature_of` in 32 bits.
-use mathlib.Core.Path.{◌∙◌, ap}
 use lib.ListN.{length}
 use Rattle.device.specs.declared.Device.TheVariants.{Fpu}
-use Rattle.capi.specs.Numbers.{narrow}
 use Rattle.capi.proofs.Bounds.{signature_fits}
-use borrow.Author.Rules.{rules}
 use Rattle.capi.proofs.o32_signature.Goals as goal
 
 pub narrowed-requires : goal.narrowed-requires

@@ -1,9 +1,6 @@
 -- `o32_walk` meets its contract: the walker's answer in 32 bits.
 use lib.ListN.{length}
-use Rattle.device.specs.declared.Device.{Device}
-use Rattle.varargs.specs.Walking.{walk_into}
-use Rattle.capi.proofs.Bounds.{walk_fits, handed}
-use borrow.Author.Rules.{rules}
+use Rattle.capi.proofs.Bounds.{walk_fits}
 use Rattle.capi.proofs.o32_walk.Goals as goal
 
 pub narrowed-requires : goal.narrowed-requires

@@ -1,3 +1,4 @@
+-- `put_bytes` meets its contract: so far the first i bytes are laid.
 use mathlib.Core.Path.{◌≡◌}
 use mathlib.Core.List.{◌++◌}
 use Prim.Native.Nat.{◌+◌, ◌*◌, ◌-◌, ◌≤◌}
@@ -5,8 +6,6 @@ use lib.ListN.{length, take}
 use Rattle.case_output.specs.AnswerText.{bytes_text}
 use Rattle.case_output.proofs.put_bytes.Given as goal
 
--- `put_bytes` meets its contract: so far the first i bytes are laid.
--- Assumes nothing.
 abbrev pub invariant-loop-i : goal.invariant-loop-i
 invariant-loop-i l =
     (l.i ≤ length l.bytes) × (l.end ≤ l.at + 4 * l.i) × (take l.end l.text ≡ take l.at l.initial.text ++ bytes_text l.bytes l.i) × (length l.text ≡ length l.initial.text)

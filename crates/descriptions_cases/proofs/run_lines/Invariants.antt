@@ -1,9 +1,8 @@
+-- `run_lines` is safe and ends: each line starts after the one before it.
 use Prim.Native.Nat.{◌-◌}
 use lib.ListN.{length}
 use Rattle.descriptions_cases.proofs.run_lines.Given as goal
 
--- `run_lines` is safe and ends: each line starts after the one before it.
--- Assumes nothing.
 abbrev pub invariant-loop-at : goal.invariant-loop-at
 invariant-loop-at l = Unit {0}
 

@@ -1,7 +1,6 @@
 -- `o32_load::get_body` meets its contract, by the argument's register and by whether it became a word.
 use native.Mathlib.Omega.{arith}
-use Rattle.o32_load.proofs.Bodies.{float_fits, word_end, plain_wide, float_body, word-body, plain_body}
-use borrow.Author.Rules.{rules}
+use Rattle.o32_load.proofs.Bodies.{word-body, plain_body}
 use Rattle.o32_load.proofs.get_body.Goals as goal
 
 pub returns-then-size-width : goal.returns-then-size-width

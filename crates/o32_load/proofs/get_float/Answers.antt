@@ -1,9 +1,9 @@
 -- `o32_load::get_float` meets its contract: a single is read from the word of its register, a double
+-- from those of two registers, in the order of its bytes.
 use Prim.Native.Nat.{◌+◌, ◌-◌, ◌*◌}
 use native.Mathlib.Omega.{arith}
-use Rattle.o32_laws.proofs.Fitting.{float_bounds, single_size}
-use Rattle.o32_load.proofs.Parts.{read_one, read-two}
-use borrow.Author.Rules.{rules}
+use Rattle.o32_laws.proofs.Fitting.{float_bounds}
+use Rattle.o32_load.proofs.Parts.{read-two}
 use Rattle.o32_load.proofs.get_float.Goals as goal
 
 pub returns-then-size-eq8 : goal.returns-then-size-eq8

@@ -1,7 +1,6 @@
 -- `o32_load::get_plain` meets its contract: the bytes lie together in the area, or in the register words, or are split at offset 16.
 use native.Mathlib.Omega.{arith}
 use Rattle.o32_load.proofs.Parts.{gather_low, gather_high, stored_split}
-use borrow.Author.Rules.{rules}
 use Rattle.o32_load.proofs.get_plain.Goals as goal
 
 pub returns-then-o-ge16 : goal.returns-then-o-ge16

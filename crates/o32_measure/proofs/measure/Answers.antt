@@ -1,8 +1,6 @@
 -- `measure` meets its contract: what the walk has found so far is what the whole has.
 use native.Mathlib.Omega.{arith}
-use Prim.Native.Nat.{◌+◌, ◌-◌, ◌≤◌}
-use lib.ListN.{length}
-use Rattle.o32_measure.proofs.Measures.{Measuring, measure_starts, measure_bounds, measure_ends, measure_refused, measure_size, measure_inside, measure_turn}
+use Rattle.o32_measure.proofs.Measures.{measure_starts, measure_bounds, measure_refused, measure_size, measure_inside, measure_turn}
 use borrow.Author.Rules.{rules}
 use Rattle.o32_measure.proofs.measure.Goals as goal
 

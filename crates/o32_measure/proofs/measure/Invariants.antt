@@ -1,12 +1,9 @@
-use native.Mathlib.Omega.{arith}
-use Prim.Native.Nat.{◌+◌, ◌-◌, ◌≤◌}
+-- `measure` meets its contract: what the walk has found so far is what the whole has.
+use Prim.Native.Nat.{◌-◌}
 use lib.ListN.{length}
-use Rattle.o32_measure.proofs.Measures.{Measuring, measure_starts, measure_bounds, measure_ends, measure_refused, measure_size, measure_inside, measure_turn}
-use borrow.Author.Rules.{rules}
+use Rattle.o32_measure.proofs.Measures.{Measuring}
 use Rattle.o32_measure.proofs.measure.Given as goal
 
--- `measure` meets its contract: what the walk has found so far is what the whole has.
--- Assumes nothing.
 abbrev pub invariant-loop-at : goal.invariant-loop-at
 invariant-loop-at l = Measuring l.bodies l.list l.st l.length l.at
 

@@ -1,17 +1,9 @@
 -- `check` meets its contract: what is found from each kind on is what the whole signature finds.
 use native.Mathlib.Omega.{arith}
-use mathlib.Core.Bool.{false}
-use Prim.Native.Nat.{◌-◌}
-use lib.ListN.{length}
-use Rattle.carried.specs.Image.{checked}
-use Rattle.carried.specs.Convention.{scan}
-use Rattle.passes.specs.Passes.{placed_in}
-use Rattle.passes.proofs.Reading.{Checking, check_starts, check_ends}
-use Rattle.o32.specs.O32.{O32}
+use Rattle.passes.proofs.Reading.{check_starts}
 use Rattle.o32_laws.proofs.Premises.{O32-premises}
-use Rattle.o32_step.proofs.Ahead.{ahead_few, ahead_placeable, ahead_fit, ahead_placed}
+use Rattle.o32_step.proofs.Ahead.{ahead_placeable, ahead_fit}
 use Rattle.o32_reader.proofs.Turns.{word_improper, word-proper}
-use borrow.Author.Rules.{rules}
 use Rattle.o32_reader.proofs.check.Goals as goal
 
 pub loop-at-init : goal.loop-at-init

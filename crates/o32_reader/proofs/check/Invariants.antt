@@ -1,21 +1,15 @@
-use native.Mathlib.Omega.{arith}
+-- `check` meets its contract: what is found from each kind on is what the whole signature finds.
 use mathlib.Core.Bool.{false}
 use Prim.Native.Nat.{◌-◌}
 use lib.ListN.{length}
-use borrow.Author.Tests.{not-true, not-false}
 use Rattle.carried.specs.Image.{checked}
 use Rattle.carried.specs.Convention.{scan}
 use Rattle.passes.specs.Passes.{placed_in}
-use Rattle.passes.proofs.Reading.{Checking, check_starts, check_ends}
+use Rattle.passes.proofs.Reading.{Checking}
 use Rattle.o32.specs.O32.{O32}
 use Rattle.o32_laws.proofs.Premises.{O32-premises}
-use Rattle.o32_step.proofs.Ahead.{ahead_few, ahead_placeable, ahead_fit, ahead_placed}
-use Rattle.o32_reader.proofs.Turns.{word_improper, word-proper}
-use borrow.Author.Rules.{rules}
 use Rattle.o32_reader.proofs.check.Given as goal
 
--- `check` meets its contract: what is found from each kind on is what the whole signature finds.
--- Assumes nothing.
 abbrev pub invariant-loop-at : goal.invariant-loop-at
 invariant-loop-at l = Checking (O32-premises l.device) l.signature l.image (λ n x. checked n 0 (placed_in (scan (O32 l.device) false l.signature)) l.image x) l.st l.at
 

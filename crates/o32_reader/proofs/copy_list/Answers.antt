@@ -1,18 +1,11 @@
 -- `copy_list` meets its contract: what was copied and the reading of what is ahead are the whole reading.
 use native.Mathlib.Omega.{arith}
-use mathlib.Core.Path.{◌≡◌, refl, ◌∙◌}
-use mathlib.Core.Bool.{false}
-use Prim.Native.Nat.{◌+◌, ◌-◌, ◌≤◌}
-use lib.ListN.{length, length-set}
-use Rattle.carried.specs.Image.{reading}
-use Rattle.carried.specs.Convention.{scan}
-use Rattle.passes.specs.Passes.{placed_in}
-use Rattle.passes.proofs.Reading.{Copying, copy_starts, copy_ends}
-use Rattle.o32.specs.O32.{O32}
+use mathlib.Core.Path.{refl, ◌∙◌}
+use lib.ListN.{length-set}
+use Rattle.passes.proofs.Reading.{copy_starts}
 use Rattle.o32_laws.proofs.Premises.{O32-premises}
-use Rattle.o32_step.proofs.Ahead.{ahead_placeable, ahead_fit, ahead_placed}
+use Rattle.o32_step.proofs.Ahead.{ahead_placeable, ahead_fit}
 use Rattle.o32_reader.proofs.Turns.{body-room, body-copied}
-use borrow.Author.Rules.{rules}
 use Rattle.o32_reader.proofs.copy_list.Goals as goal
 
 pub loop-at-init : goal.loop-at-init
@@ -37,8 +30,7 @@ pub overflow_add-n : goal.overflow_add-n
 overflow_add-n c = omega (arith, body-room c.args.device c.loop-at.invariant.1 c.loop-at-test.true c.kind_of-kind.ensures c.placement_of-placement.ensures c.requires.image_in_bounds, c.well_formed)
 
 pub loop-at-preserved : goal.loop-at-preserved
-loop-at-preserved c =
-    (
-      c.get_body.auto.out ∙ length-set c.loop-at.out c.loop-at.n _ ∙ c.loop-at.invariant.0,
-      body-copied c.args.device c.loop-at.invariant.1 c.loop-at-test.true c.kind_of-kind.ensures c.placement_of-placement.ensures c.requires.image_in_bounds c.advance-st.ensures (omega arith) c.get_body.ensures,
-    )
+loop-at-preserved c = (
+  c.get_body.auto.out ∙ length-set c.loop-at.out c.loop-at.n _ ∙ c.loop-at.invariant.0,
+  body-copied c.args.device c.loop-at.invariant.1 c.loop-at-test.true c.kind_of-kind.ensures c.placement_of-placement.ensures c.requires.image_in_bounds c.advance-st.ensures (omega arith) c.get_body.ensures,
+)

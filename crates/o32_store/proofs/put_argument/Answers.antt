@@ -1,12 +1,9 @@
 -- `o32_store::put_argument` meets its contract, by the argument's register and class.
 use mathlib.Core.Path.{◌≡◌}
-use mathlib.Core.Bool.{true, false}
 use native.Mathlib.Omega.{arith}
-use lib.ListN.{length, take, drop}
+use lib.ListN.{length}
 use Rattle.o32_store.proofs.Floats.{float_whole}
-use Rattle.o32_laws.proofs.Fitting.{Worded, Plain, signed_kind, unsigned_kind, plain_kind, body_fits, word_fits, plain_fits}
-use Rattle.o32_store.proofs.Arguments.{word-argument, plain_argument, float_argument}
-use borrow.Author.Rules.{rules}
+use Rattle.o32_store.proofs.Arguments.{float_argument}
 use Rattle.o32_store.proofs.put_argument.Goals as goal
 
 pub returns-then-register-ne0 : goal.returns-then-register-ne0

@@ -1,10 +1,10 @@
 -- `o32_store::put_float` meets its contract: a single is stored into the word of its register, a double
+-- into those of two registers, in the order of its bytes.
 use mathlib.Core.Path.{◌≡◌}
 use native.Mathlib.Omega.{arith}
 use lib.ListN.{length}
 use Rattle.o32_laws.proofs.Fitting.{float_bounds, single_size}
 use Rattle.o32_store.proofs.Floats.{one_register, two_registers}
-use borrow.Author.Rules.{rules}
 use Rattle.o32_store.proofs.put_float.Goals as goal
 
 pub returns-then-size-eq8 : goal.returns-then-size-eq8

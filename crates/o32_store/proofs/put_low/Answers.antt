@@ -1,14 +1,12 @@
 -- `o32_store::put_low` meets its contract. The loop's invariant: the bytes that belong to the first k words are stored.
-use mathlib.Core.Path.{◌≡◌, refl, ap, ◌∙◌}
-use Prim.Native.Nat.{ℕ, ◌+◌, ◌-◌, ◌*◌, ◌≤◌, min}
+use mathlib.Core.Path.{◌∙◌}
+use Prim.Native.Nat.{◌+◌, ◌-◌, ◌*◌}
 use native.Mathlib.Omega.{arith}
-use lib.ListN.{length, take, drop, length-set}
-use Rattle.places.specs.Places.{put, run}
+use lib.ListN.{take, drop, length-set}
 use Rattle.words.specs.Words.{bytes_of_words}
 use Rattle.o32_store.specs.Block.{bytes_in_word}
 use Rattle.o32_store.proofs.Image.{word-start}
 use Rattle.o32_store.proofs.Low.{at-most_four, low_next}
-use borrow.Author.Rules.{rules}
 use Rattle.o32_store.proofs.put_low.Goals as goal
 
 pub loop-k-preserved : goal.loop-k-preserved

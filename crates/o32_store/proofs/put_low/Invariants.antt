@@ -1,17 +1,11 @@
-use mathlib.Core.Path.{◌≡◌, refl, ap, ◌∙◌}
-use Prim.Native.Nat.{ℕ, ◌+◌, ◌-◌, ◌*◌, ◌≤◌, min}
-use native.Mathlib.Omega.{arith}
-use lib.ListN.{length, take, drop, length-set}
+-- `o32_store::put_low` meets its contract. The loop's invariant: the bytes that belong to the first k words are stored.
+use mathlib.Core.Path.{◌≡◌}
+use Prim.Native.Nat.{◌-◌, ◌*◌, ◌≤◌, min}
+use lib.ListN.{length, take, drop}
 use Rattle.places.specs.Places.{put, run}
 use Rattle.words.specs.Words.{bytes_of_words}
-use Rattle.o32_store.specs.Block.{bytes_in_word}
-use Rattle.o32_store.proofs.Image.{word-start}
-use Rattle.o32_store.proofs.Low.{at-most_four, low_next}
-use borrow.Author.Rules.{rules}
 use Rattle.o32_store.proofs.put_low.Given as goal
 
--- `o32_store::put_low` meets its contract. The loop's invariant: the bytes that belong to the first k words are stored.
--- Assumes nothing.
 abbrev pub invariant-loop-k : goal.invariant-loop-k
 invariant-loop-k l = (l.k ≤ 4) × (length l.next ≡ 8) × (bytes_of_words l.next ≡ put (bytes_of_words l.initial.next) (run l.o (min l.n (4 * l.k - l.o))) (take (min l.n (4 * l.k - l.o)) (drop l.at l.src)))
 

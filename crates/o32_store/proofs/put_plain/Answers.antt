@@ -3,7 +3,6 @@ use mathlib.Core.Path.{◌≡◌}
 use native.Mathlib.Omega.{arith}
 use lib.ListN.{length}
 use Rattle.o32_store.proofs.Image.{laid_low, laid_high, laid_split}
-use borrow.Author.Rules.{rules}
 use Rattle.o32_store.proofs.put_plain.Goals as goal
 
 pub returns-then-o-ge16 : goal.returns-then-o-ge16

@@ -4,7 +4,6 @@ use native.Mathlib.Omega.{arith}
 use lib.ListN.{length}
 use Rattle.words.specs.Words.{bytes_of}
 use Rattle.o32_store.proofs.Image.{word_low, laid_high}
-use borrow.Author.Rules.{rules}
 use Rattle.o32_store.proofs.put_word.Goals as goal
 
 pub returns-then-o-lt16 : goal.returns-then-o-lt16

@@ -1,11 +1,7 @@
 -- `o32_store::write_block` meets its contract. The loop's invariant: the first i words lie at the front of the buffer.
-use mathlib.Core.Path.{◌≡◌, refl, ◌∙◌}
-use mathlib.Core.List.{◌++◌}
-use Prim.Native.Nat.{◌-◌, ◌*◌, ◌≤◌}
+use mathlib.Core.Path.{◌≡◌, ◌∙◌}
 use native.Mathlib.Omega.{arith}
-use lib.ListN.{length, take, drop}
-use lib.Seq.{take_all}
-use Rattle.words.specs.Words.{bytes_of_words}
+use lib.ListN.{length}
 use Rattle.o32_store.proofs.Image.{word_next}
 use Rattle.o32_store.proofs.write_block.Goals as goal
 

@@ -1,15 +1,11 @@
-use mathlib.Core.Path.{◌≡◌, refl, ◌∙◌}
+-- `o32_store::write_block` meets its contract. The loop's invariant: the first i words lie at the front of the buffer.
+use mathlib.Core.Path.{◌≡◌}
 use mathlib.Core.List.{◌++◌}
 use Prim.Native.Nat.{◌-◌, ◌*◌, ◌≤◌}
-use native.Mathlib.Omega.{arith}
 use lib.ListN.{length, take, drop}
-use lib.Seq.{take_all}
 use Rattle.words.specs.Words.{bytes_of_words}
-use Rattle.o32_store.proofs.Image.{word_next}
 use Rattle.o32_store.proofs.write_block.Given as goal
 
--- `o32_store::write_block` meets its contract. The loop's invariant: the first i words lie at the front of the buffer.
--- Assumes nothing.
 abbrev pub invariant-loop-i : goal.invariant-loop-i
 invariant-loop-i l = (l.i ≤ 8) × (length l.out ≡ length l.initial.out) × (l.out ≡ bytes_of_words (take l.i l.block) ++ drop (l.i * 4) l.initial.out)
 

@@ -1,11 +1,8 @@
+-- `clear` meets its contract: the bytes before i are zero, those after as they were.
 use Prim.Native.Nat.{◌-◌}
-use native.Mathlib.Omega.{arith}
-use borrow.Author.Rules.{rules}
-use Rattle.o32_writer.proofs.Clearing.{Clearing, clear_starts, clear_turn, clear_ends}
+use Rattle.o32_writer.proofs.Clearing.{Clearing}
 use Rattle.o32_writer.proofs.clear.Given as goal
 
--- `clear` meets its contract: the bytes before i are zero, those after as they were.
--- Assumes nothing.
 abbrev pub invariant-loop-i : goal.invariant-loop-i
 invariant-loop-i l = Clearing l.initial.out l.n l.out l.i
 

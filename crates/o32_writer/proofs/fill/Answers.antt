@@ -1,19 +1,10 @@
 -- `fill` meets its contract: at each turn, the bytes still to be stored make of the image what the whole list makes of it.
 use native.Mathlib.Omega.{arith}
-use mathlib.Core.Path.{◌≡◌, refl}
-use mathlib.Core.Bool.{true}
-use Prim.Native.Nat.{◌+◌, ◌-◌, ◌≤◌}
-use lib.ListN.{length, replicate}
-use Rattle.places.specs.Places.{put}
-use Rattle.carried.specs.Image.{carried, promoted_bytes}
-use Rattle.carried.specs.Convention.{scan}
-use Rattle.passes.specs.Passes.{placed_in}
-use Rattle.passes.proofs.Filling.{Filling, fill_starts, fill_ends}
-use Rattle.o32.specs.O32.{O32}
+use mathlib.Core.Path.{refl}
+use Rattle.passes.proofs.Filling.{fill_starts}
 use Rattle.o32_laws.proofs.Premises.{O32-premises}
-use Rattle.o32_store.specs.Block.{whole}
-use Rattle.o32_step.proofs.Ahead.{ahead_placeable, ahead_fit, ahead_placed}
-use Rattle.o32_writer.proofs.Filling.{list_short, body_inside, argument-stored}
+use Rattle.o32_step.proofs.Ahead.{ahead_placeable, ahead_fit}
+use Rattle.o32_writer.proofs.Filling.{body_inside, argument-stored}
 use borrow.Author.Rules.{rules}
 use Rattle.o32_writer.proofs.fill.Goals as goal
 

@@ -1,5 +1,4 @@
 -- `lay` meets its contract: what the three passes leave is the image.
-use borrow.Author.Rules.{rules}
 use Rattle.o32_writer.proofs.Laying.{laid}
 use Rattle.o32_writer.proofs.lay.Goals as goal
 

@@ -1,12 +1,9 @@
 -- `o32_store::move_chunk` meets its contract. The first loop's invariant: the first i bytes are in the array; the second's: the first j of
+-- the array are stored.
 use native.Mathlib.Omega.{arith}
-use mathlib.Core.Path.{◌≡◌, refl, ap, ◌∙◌}
-use Prim.Native.Nat.{ℕ, ◌-◌, ◌≤◌}
 use native.Mathlib.Nat.{zero-add}
-use lib.ListN.{length, take, drop, length-set}
-use Rattle.places.specs.Places.{put, run}
-use Rattle.places.proofs.Stores.{store_next, held_next}
-use borrow.Author.Rules.{rules}
+use lib.ListN.{length-set}
+use Rattle.places.proofs.Stores.{store_next}
 use Rattle.places.proofs.move_chunk.Goals as goal
 
 pub loop-j-preserved : goal.loop-j-preserved

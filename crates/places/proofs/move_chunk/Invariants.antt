@@ -1,16 +1,11 @@
-use native.Mathlib.Omega.{arith}
-use mathlib.Core.Path.{◌≡◌, refl, ap, ◌∙◌}
-use Prim.Native.Nat.{ℕ, ◌-◌, ◌≤◌}
-use native.Mathlib.Nat.{zero-add}
-use lib.ListN.{length, take, drop, length-set}
-use Rattle.places.specs.Places.{put, run}
-use Rattle.places.proofs.Stores.{store_next, held_next}
-use borrow.Author.Rules.{rules}
-use Rattle.places.proofs.move_chunk.Given as goal
-
 -- `o32_store::move_chunk` meets its contract. The first loop's invariant: the first i bytes are in the array; the second's: the first j of
 -- the array are stored.
--- Assumes nothing.
+use mathlib.Core.Path.{◌≡◌}
+use Prim.Native.Nat.{◌-◌, ◌≤◌}
+use lib.ListN.{length, take, drop}
+use Rattle.places.specs.Places.{put, run}
+use Rattle.places.proofs.move_chunk.Given as goal
+
 abbrev pub invariant-loop-i : goal.invariant-loop-i
 invariant-loop-i l = (l.i ≤ l.n) × (length l.chunk ≡ 512) × (take l.i l.chunk ≡ take l.i (drop l.at l.src))
 

@@ -1,8 +1,7 @@
+-- `run_lines` is safe and ends: each line starts after the one before it.
 use Rattle.std.proofs.Common.{◌-◌, length}
 use Rattle.plans_cases.proofs.run_lines.Given as goal
 
--- `run_lines` is safe and ends: each line starts after the one before it.
--- Assumes nothing.
 abbrev pub invariant-loop-at : goal.invariant-loop-at
 invariant-loop-at l = Unit {0}
 

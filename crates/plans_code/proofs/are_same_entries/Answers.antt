@@ -1,9 +1,7 @@
 -- `are_same_entries` meets its contract: the entries still to be compared decide.
 use mathlib.Core.Path.{sym, ◌∙◌}
-use Prim.Native.Nat.{◌-◌}
 use native.Mathlib.Omega.{arith}
-use borrow.Author.Rules.{rules}
-use Rattle.plans_code.proofs.Comparing.{Comparing, compare_starts, compare_differs, compare_turn, compare_ends, as_many}
+use Rattle.plans_code.proofs.Comparing.{compare_differs, compare_turn, compare_ends, as_many}
 use Rattle.plans_code.proofs.are_same_entries.Goals as goal
 
 pub returns-then-not-is_same_entry : goal.returns-then-not-is_same_entry

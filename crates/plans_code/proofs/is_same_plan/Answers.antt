@@ -1,6 +1,5 @@
 -- `is_same_plan` meets its contract: entries, count and area decide, in this order.
 use mathlib.Core.Path.{sym, ◌∙◌}
-use borrow.Author.Rules.{rules}
 use Rattle.plans.specs.Plans.{entry_numbers}
 use Rattle.plans.proofs.Comparing.{entries_differ, counts_differ, area_decides}
 use Rattle.plans_code.proofs.is_same_plan.Goals as goal

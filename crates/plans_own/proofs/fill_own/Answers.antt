@@ -1,7 +1,7 @@
 -- `fill_own` meets its contract: refused by record, refused for a plan that differs or a short buffer, or written.
 use mathlib.Core.Path.{◌∙◌, ap, sym}
 use native.Mathlib.Omega.{arith}
-use Rattle.answers.specs.Outcomes.{Outcome, answer_of, buffer_of}
+use Rattle.answers.specs.Outcomes.{answer_of}
 use Rattle.plans_own.proofs.Answers.{own_accepted, plan_differs, filled_short, filled_done}
 use Rattle.plans_own.proofs.fill_own.Goals as goal
 

@@ -1,12 +1,8 @@
 -- `copy_kinds` meets its contract: what was copied, and the kinds of the records still ahead, are the whole signature.
-use mathlib.Core.Path.{◌≡◌, refl, ◌∙◌}
-use mathlib.Core.List.{List}
-use mathlib.Core.Bool.{true}
-use Prim.Native.Nat.{ℕ, ◌-◌}
+use mathlib.Core.Path.{refl, ◌∙◌}
 use native.Mathlib.Omega.{arith}
-use lib.ListN.{length, length-set}
-use Rattle.o32_laws.specs.Refusing.{Records}
-use Rattle.plans_signature.proofs.Passing.{Passing, pass_kind, pass_inside, Copying, copy_starts, copy_ends, copy_turn}
+use lib.ListN.{length-set}
+use Rattle.plans_signature.proofs.Passing.{pass_kind, pass_inside, copy_starts, copy_ends, copy_turn}
 use Rattle.plans_signature.proofs.copy_kinds.Goals as goal
 
 pub loop-at-init : goal.loop-at-init
@@ -22,7 +18,7 @@ pub loop-at-preserved : goal.loop-at-preserved
 loop-at-preserved c = (
   length-set c.loop-at.out c.loop-at.n _ ∙ c.loop-at.invariant.0,
   λ sig r. copy_turn (c.loop-at.invariant.1 sig r) c.loop-at-test.true (omega (arith, (pass_kind ((c.loop-at.invariant.1 c.requires.0 c.requires.1).passing) c.loop-at-test.true).0, c.requires.2)) c.after_record-at.ensures,
-  )
+)
 
 pub returns : goal.returns
 returns c = λ sig r. copy_ends (c.loop-at.invariant.1 sig r) c.loop-at-test.false

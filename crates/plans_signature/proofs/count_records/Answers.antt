@@ -1,11 +1,5 @@
 -- `count_records` meets its contract: what was counted, and the records still ahead, are the whole signature.
-use mathlib.Core.List.{List}
-use mathlib.Core.Bool.{true}
-use Prim.Native.Nat.{ℕ, ◌-◌}
-use native.Mathlib.Omega.{arith}
-use lib.ListN.{length}
-use Rattle.o32_laws.specs.Refusing.{Records}
-use Rattle.plans_signature.proofs.Passing.{Passing, pass_starts, pass_ends, pass_inside, pass_turn}
+use Rattle.plans_signature.proofs.Passing.{pass_starts, pass_ends, pass_inside, pass_turn}
 use Rattle.plans_signature.proofs.count_records.Goals as goal
 
 pub loop-at-init : goal.loop-at-init

@@ -1,14 +1,12 @@
+-- `count_records` meets its contract: what was counted, and the records still ahead, are the whole signature.
 use mathlib.Core.List.{List}
 use mathlib.Core.Bool.{true}
 use Prim.Native.Nat.{ℕ, ◌-◌}
-use native.Mathlib.Omega.{arith}
 use lib.ListN.{length}
 use Rattle.o32_laws.specs.Refusing.{Records}
-use Rattle.plans_signature.proofs.Passing.{Passing, pass_starts, pass_ends, pass_inside, pass_turn}
+use Rattle.plans_signature.proofs.Passing.{Passing}
 use Rattle.plans_signature.proofs.count_records.Given as goal
 
--- `count_records` meets its contract: what was counted, and the records still ahead, are the whole signature.
--- Assumes nothing.
 abbrev pub invariant-loop-at : goal.invariant-loop-at
 invariant-loop-at l = (sig : List ℕ) → Records true sig l.list → Passing l.list sig l.n l.at
 

@@ -1,7 +1,6 @@
 -- `signature_of` meets its contract: refused by record, refused for a short buffer, or the kinds, on every device.
 use native.Mathlib.Omega.{arith}
-use Rattle.plans_signature.proofs.Answers.{signature-refused, whole_records, records_room, signature_short, signature_done}
-use borrow.Author.Rules.{rules}
+use Rattle.plans_signature.proofs.Answers.{whole_records, records_room, signature_short, signature_done}
 use Rattle.plans_signature.proofs.signature_of.Goals as goal
 
 pub count_records-n-requires : goal.count_records-n-requires

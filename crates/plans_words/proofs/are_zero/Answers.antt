@@ -1,7 +1,6 @@
 -- `are_zero` meets its contract: the sum is zero where every word is.
-use Prim.Native.Nat.{◌-◌}
 use native.Mathlib.Omega.{arith}
-use Rattle.plans_words.proofs.Comparing.{Adding, adding_starts, adding_turn, adding_ends}
+use Rattle.plans_words.proofs.Comparing.{adding_turn, adding_ends}
 use Rattle.plans_words.proofs.are_zero.Goals as goal
 
 pub loop-i-preserved : goal.loop-i-preserved

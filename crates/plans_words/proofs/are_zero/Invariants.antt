@@ -1,10 +1,8 @@
+-- `are_zero` meets its contract: the sum is zero where every word is.
 use Prim.Native.Nat.{◌-◌}
-use native.Mathlib.Omega.{arith}
-use Rattle.plans_words.proofs.Comparing.{Adding, adding_starts, adding_turn, adding_ends}
+use Rattle.plans_words.proofs.Comparing.{Adding}
 use Rattle.plans_words.proofs.are_zero.Given as goal
 
--- `are_zero` meets its contract: the sum is zero where every word is.
--- Assumes nothing.
 abbrev pub invariant-loop-i : goal.invariant-loop-i
 invariant-loop-i l = Adding l.words l.from l.sum l.i
 

@@ -1,6 +1,4 @@
 -- `fill` meets its contract: what is compared with the words is the plan of the list.
-use borrow.Author.Rules.{rules}
-use Rattle.plans_own.proofs.Answers.{fill_compared}
 use Rattle.plans_words.proofs.Answers.{own_zero_past}
 use Rattle.plans_words.proofs.fill.Goals as goal
 

@@ -1,10 +1,7 @@
 -- `have_entries` meets its contract: the entries still to be compared decide.
 use mathlib.Core.Path.{◌∙◌, sym}
-use Prim.Native.Nat.{◌-◌}
 use native.Mathlib.Omega.{arith}
-use borrow.Author.Rules.{rules}
-use borrow.Author.Tests.{not-true, not-false}
-use Rattle.plans_words.proofs.Comparing.{Comparing, compare_starts, compare_differs, compare_turn, compare_ends}
+use Rattle.plans_words.proofs.Comparing.{compare_differs, compare_turn, compare_ends}
 use Rattle.plans_words.proofs.have_entries.Goals as goal
 
 pub returns-then-not-is_entry : goal.returns-then-not-is_entry

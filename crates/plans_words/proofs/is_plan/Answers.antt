@@ -1,8 +1,6 @@
 -- `is_plan` meets its contract: entries, zeros, count and area decide, in this order.
 use mathlib.Core.Path.{◌∙◌, sym}
-use native.Mathlib.Omega.{arith}
-use borrow.Author.Tests.{not-true, not-false}
-use Rattle.plans_words.proofs.Comparing.{wrong_length, count_few, entries_differ, rest_differs, counts_differ, area_decides}
+use Rattle.plans_words.proofs.Comparing.{wrong_length, entries_differ, rest_differs, counts_differ, area_decides}
 use Rattle.plans_words.proofs.is_plan.Goals as goal
 
 -- `is_plan` meets its contract: entries, zeros, count and area decide, in this order.

@@ -1,9 +1,6 @@
 -- `make_plan` meets its contract: refused by record, refused for a short buffer, or the plan's words.
 use mathlib.Core.Path.{◌∙◌, ap, sym}
-use mathlib.Core.Bool.{false}
-use borrow.Author.Rules.{rules}
 use Rattle.answers.specs.Outcomes.{Outcome, answer_of, buffer_of}
-use Rattle.plans_own.proofs.Answers.{made_refused}
 use Rattle.plans_words.proofs.Answers.{make_short, make_done}
 use Rattle.plans_words.proofs.make_plan.Goals as goal
 

@@ -1,10 +1,7 @@
 -- `put_entries` meets its contract: the words before i are stored, those after are as they were.
 use mathlib.Core.Path.{refl}
-use Prim.Native.Nat.{◌-◌}
 use native.Mathlib.Omega.{arith}
-use lib.ListN.{length-set}
-use borrow.Author.Rules.{rules}
-use Rattle.plans_words.proofs.Storing.{Storing, storing_starts, storing_turn, storing_ends}
+use Rattle.plans_words.proofs.Storing.{storing_turn}
 use Rattle.plans_words.proofs.put_entries.Goals as goal
 
 pub loop-i-preserved : goal.loop-i-preserved

@@ -1,8 +1,5 @@
 -- `put_plan` meets its contract: the entries, then the count and the area.
 use mathlib.Core.Path.{refl}
-use native.Mathlib.Omega.{arith}
-use lib.ListN.{length-set}
-use borrow.Author.Rules.{rules}
 use Rattle.plans_words.proofs.Storing.{plan-stored}
 use Rattle.plans_words.proofs.put_plan.Goals as goal
 

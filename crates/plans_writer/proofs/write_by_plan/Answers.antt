@@ -2,7 +2,6 @@
 use mathlib.Core.Path.{sym}
 use native.Mathlib.Omega.{arith}
 use lib.Seq.{length-take-le}
-use borrow.Author.Rules.{rules}
 use Rattle.plans_writer.proofs.Once.{signature_inside, written_by_plan}
 use Rattle.plans_writer.proofs.write_by_plan.Goals as goal
 

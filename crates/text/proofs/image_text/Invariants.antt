@@ -1,3 +1,4 @@
+-- `image_text` meets its contract: so far the buffer has the lines of the first i words over its start.
 use mathlib.Core.Path.{◌≡◌}
 use Prim.Native.Nat.{◌-◌, ◌≤◌}
 use lib.ListN.{length}
@@ -5,8 +6,6 @@ use Rattle.text.specs.Text.{lines}
 use Rattle.text.proofs.Written.{overlay}
 use Rattle.text.proofs.image_text.Given as goal
 
--- `image_text` meets its contract: so far the buffer has the lines of the first i words over its start.
--- Assumes nothing.
 abbrev pub invariant-loop-i : goal.invariant-loop-i
 invariant-loop-i l = (l.i ≤ l.words) × (l.out ≡ overlay (lines l.image l.i) l.initial.out) × (length l.out ≡ length l.initial.out)
 

@@ -1,11 +1,10 @@
+-- `put` meets its contract: so far the buffer has the first i bytes of the text.
 use mathlib.Core.Path.{◌≡◌}
 use Prim.Native.Nat.{◌-◌, ◌≤◌}
 use lib.ListN.{length}
 use lib.Seq.{paste}
 use Rattle.text.proofs.put.Given as goal
 
--- `put` meets its contract: so far the buffer has the first i bytes of the text.
--- Assumes nothing.
 abbrev pub invariant-loop-i : goal.invariant-loop-i
 invariant-loop-i l = (l.i ≤ length l.text) × (l.out ≡ paste l.initial.out l.at l.text l.i) × (length l.out ≡ length l.initial.out)
 

@@ -1,3 +1,4 @@
+-- `take_bodies` meets its contract: what was taken, and what is still asked for, are the whole walk.
 use mathlib.Core.Path.{◌≡◌}
 use Prim.Native.Nat.{◌-◌}
 use lib.ListN.{length, drop}
@@ -5,8 +6,6 @@ use Rattle.varargs.specs.Walking.{spilled, walk_from}
 use Rattle.varargs_code.proofs.Taking.{Taking}
 use Rattle.varargs_code.proofs.take_bodies.Given as goal
 
--- `take_bodies` meets its contract: what was taken, and what is still asked for, are the whole walk.
--- Assumes nothing.
 abbrev pub invariant-loop-at : goal.invariant-loop-at
 invariant-loop-at l =
     (length l.out ≡ length l.initial.out) × Taking l.signature l.image l.initial.out (walk_from (spilled l.image) l.start (drop l.place l.signature)) l.pointer l.n l.at l.out
