@@ -104,8 +104,8 @@
 //!
 //! # Building
 //!
-//! The crate links the static library `libcapi.a`, for x86_64, which `rt
-//! staticlib capi` builds at the root of this repository. The environment
+//! The crate links the static library `libcapi.a`, for x86_64, which `rt lib`
+//! builds in the folder `crates/capi` of this repository. The environment
 //! variable `O32_LIB_DIR` names another directory for it: an absolute one, or
 //! one relative to the Cargo workspace that this crate is a member of (`host`
 //! in its repository), wherever cargo was started. `[env]` in the configuration
