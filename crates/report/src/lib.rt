@@ -1,5 +1,6 @@
 // What is printed for a list: the words of its call image, or the line of its refusal.
 #![tactic(auto)]
+
 ghost use Rattle.std.specs.Prelude.{◌≡◌, length};
 ghost use Rattle.io.specs.Counts.{IsPrefixLen};
 ghost use Rattle.answers.specs.Outcomes.{over};

@@ -1,4 +1,4 @@
-use Rattle.std.proofs.Common.{◌-◌, ◌≤◌, arith}
+use Rattle.std.proofs.Common.{◌-◌, ◌≤◌}
 use Rattle.plans_cases.proofs.print_entries.Given as goal
 
 -- `print_entries` is safe and ends: 32 times three words lie within the 98.

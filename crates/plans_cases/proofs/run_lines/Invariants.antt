@@ -1,4 +1,4 @@
-use Rattle.std.proofs.Common.{◌-◌, length, arith}
+use Rattle.std.proofs.Common.{◌-◌, length}
 use Rattle.plans_cases.proofs.run_lines.Given as goal
 
 -- `run_lines` is safe and ends: each line starts after the one before it.
