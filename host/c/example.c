@@ -1199,7 +1199,7 @@ static int has_version_of_header(void)
         fprintf(stderr,
                 "o32.h has version %d and the library version %" PRIu32
                 ": take both from the same place, and build the library again "
-                "with rt staticlib capi\n",
+                "with rt lib in crates/capi\n",
                 O32_VERSION, version);
         return 0;
     }

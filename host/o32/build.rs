@@ -36,9 +36,9 @@ fn library_directory() -> Result<PathBuf, String> {
         return Ok(directory);
     }
     Err(format!(
-        "there is no {LIBRARY} in {}: run `rt staticlib capi` at the root of the repository that \
-         has the proved crates, or set O32_LIB_DIR to the directory of the library, absolute or \
-         relative to {}",
+        "there is no {LIBRARY} in {}: run `rt lib` in crates/capi of the repository that has the \
+         proved crates, or set O32_LIB_DIR to the directory of the library, absolute or relative \
+         to {}",
         directory.display(),
         workspace().display()
     ))
@@ -46,7 +46,7 @@ fn library_directory() -> Result<PathBuf, String> {
 
 /// `O32_LIB_DIR`, or else the directory of the library in this repository.
 fn named_directory() -> PathBuf {
-    let named = env::var_os("O32_LIB_DIR").unwrap_or_else(|| "../target/staticlib".into());
+    let named = env::var_os("O32_LIB_DIR").unwrap_or_else(|| "../crates/capi/out".into());
     workspace().join(named)
 }
 

@@ -104,12 +104,14 @@
 //!
 //! # Building
 //!
-//! The crate links the static library `libcapi.a`, for x86_64, which `rt
-//! staticlib capi` builds at the root of this repository. The environment
-//! variable `O32_LIB_DIR` names another directory for it: an absolute one, or
-//! one relative to the Cargo workspace that this crate is a member of (`host`
-//! in its repository), wherever cargo was started. `[env]` in the configuration
-//! of cargo can make it relative to another project.
+//! The crate links the static library `libcapi.a`, for x86_64, which `rt lib`
+//! builds in the folder `crates/capi` of this repository; it needs a processor
+//! with SSE4.2 and POPCNT, and `rt lib --cpu=x86-64` builds one for every
+//! x86_64. The environment variable `O32_LIB_DIR` names another directory for
+//! it: an absolute one, or one relative to the Cargo workspace that this crate
+//! is a member of (`host` in its repository), wherever cargo was started.
+//! `[env]` in the configuration of cargo can make it relative to another
+//! project.
 //!
 //! The crate needs no standard library. The static library calls `memmove` and
 //! `memset` and nothing else.
