@@ -48,7 +48,10 @@ def turn_file(path):
             out.append(re.sub(r"`[^`]*`", lambda m: respelled(m.group(), False, False), line))
         else:
             code, at, note = line.partition(mark)
-            out.append(respelled(code, inside, False) + at + respelled(note, inside, True))
+            # in a comment a name with a dash stands in backquotes
+            parts = re.split(r"(`[^`]*`)", note)
+            note = "".join(respelled(p, inside, not p.startswith("`")) for p in parts)
+            out.append(respelled(code, inside, False) + at + note)
     turned = "\n".join(out)
     if turned != text:
         open(path, "w").write(turned)

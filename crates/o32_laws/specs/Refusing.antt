@@ -111,7 +111,7 @@ Refuses x r place j = (x.refusal ≡ r) × (x.place ≡ place) × (x.argument �
 
 -- What a call with this buffer leaves. "A refusal returns its number, its place .., length 0 ..; the output buffer keeps its bytes.
 -- Success returns 0, place 0 .. Output bytes beyond [the length] keep their content." (Which length is the exact one is said by
--- `reading-length` and `rewriting-length` of demand 3, of plans and signatures by `made` and `own-signature`, plans/specs/Pair.antt.)
+-- `reading_length` and `rewriting_length` of demand 3, of plans and signatures by `made` and `own_signature`, plans/specs/Pair.antt.)
 pub record KeepsBuffer (out : List ℕ) (x : Result) : Type 0 where
   pub refused : 1 ≤ x.refusal → (x.length ≡ 0) × (x.buffer ≡ out)
   pub accepted : x.refusal ≡ 0 → (x.place ≡ 0) × (x.argument ≡ 0) × (drop x.length x.buffer ≡ drop x.length out)
