@@ -1,5 +1,7 @@
 -- What a function with a lent buffer answers, and what it leaves in the buffer ("Refusal numbers").
-use Rattle.std.specs.Prelude.{List, ◌++◌, cond, ℕ, length, drop, ltb}
+use Rattle.std.specs.Prelude.{List, ◌++◌, cond, ℕ, length, drop, ltb, Result, Ok, Err}
+use Rattle.answers.specs.declared.Refusal.{Refusal}
+use Rattle.answers.specs.Numbers.{number}
 use Rattle.answers.specs.declared.Answer.{Answer}
 
 -- What comes of a request: bytes (of a plan, its words), or the refusal's number, its place and the argument's number.
@@ -11,6 +13,11 @@ pub data Outcome : Type 0 where
 -- a result of so many bytes or words is longer than the room for it; or else this outcome.
 abbrev pub check_room : ℕ → ℕ → ℕ → Outcome → Outcome
 check_room number room n x = cond (ltb room n) (refused number 0 0) x
+
+-- A function's answer in the papers' numbers.
+abbrev pub in_numbers : Result ℕ Refusal → Answer
+in_numbers (Err e) = record { refusal = number e.cause; place = e.place; argument = e.argument; length = 0 }
+in_numbers (Ok n) = record { refusal = 0; place = 0; argument = 0; length = n }
 
 -- "A refusal returns its number, its place .., length 0"; "Success returns 0, place 0 and the exact length." Of the argument's number:
 -- "every refusal among 1 to 5 and 8 passes it up beside the place"; "Every other refusal reports 0, and so does success" (request

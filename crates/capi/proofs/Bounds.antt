@@ -11,6 +11,7 @@ use lib.Dec.{eqb, ltb}
 use borrow.Author.Tests.{eqb-true}
 use Rattle.words.specs.Words.{body, proper, same}
 use Rattle.device.specs.declared.Device.{Device}
+use Rattle.answers.specs.declared.Answer.{Answer}
 use Rattle.answers.specs.Outcomes.{Outcome, done, refused, check_room, answer_of, buffer_of}
 use Rattle.carried.specs.Image.{checked, image, reading, Placed}
 use Rattle.places.specs.Places.{gather}
@@ -19,7 +20,6 @@ use Rattle.carried.proofs.Readings.{image-length}
 use Rattle.o32.specs.declared.State.{State}
 use Rattle.o32.specs.O32.{O32, image_size}
 use Rattle.o32_laws.proofs.Bounds.{Numbers, refusal_bound, scan_bound, reading_long}
-use Rattle.answers.specs.declared.Answer.{Answer}
 use Rattle.varargs.specs.Walking.{walked, marked, walk_scan, walk_into}
 use Rattle.varargs.proofs.Bodies.{walked_long, bodies_most}
 use Rattle.carried.specs.Carried.{kinds}
@@ -28,7 +28,7 @@ use Rattle.plans.proofs.Entries.{entries_long, kinds_few, numbers_long}
 use Rattle.frame.specs.declared.Request.{Request}
 use Rattle.frame.specs.Words.{prologue_words, epilogue_words}
 use Rattle.frame_code.specs.Code.{code_into, prologue_into, epilogue_into}
-use Rattle.descriptions.specs.declared.Structure.{Structure}
+use Rattle.descriptions.specs.Structures.{Structure}
 use Rattle.descriptions.specs.Describing.{described}
 use Rattle.descriptions.specs.Descriptions.{place_most}
 use Rattle.descriptions.proofs.Places.{place_bound, small_numbers}

@@ -11,11 +11,11 @@ use Rattle.varargs.specs.Walking.{walk_into}
 use Rattle.varargs.specs.Varargs.{Walker}
 use Rattle.plans.specs.Plans.{make_into, fill_into, signature_into}
 use Rattle.plans.specs.Pair.{Pair}
-use Rattle.descriptions.specs.declared.Structure.{Structure}
+use Rattle.descriptions.specs.Structures.{Structure}
 use Rattle.descriptions.specs.Describing.{described}
 use Rattle.frame.specs.declared.Request.{Request}
-use Rattle.frame.specs.declared.Layout.{Layout}
-use Rattle.prologues.specs.declared.Verdict.{Verdict}
+use Rattle.frame.specs.Layout.{Layout}
+use Rattle.prologues.specs.Verdict.{Verdict}
 use Rattle.prologues.specs.Checking.{checked}
 use Rattle.capi.specs.declared.O32Answer.{O32Answer}
 use Rattle.capi.specs.declared.O32Layout.{O32Layout}

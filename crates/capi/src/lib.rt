@@ -1,28 +1,33 @@
-// The proved functions for C. A slice is a pointer and a length there; each answer is a struct of 32-bit numbers, by value.
+// The proved functions for C. A slice is a pointer and a length there; each answer is a struct of 32-bit numbers, by value; a request is
+// five numbers. C calls each function by its name, so functions that differ in a name alone stay apart.
 #![tactic(auto)]
 
 ghost use Rattle.std.specs.Prelude.{◌≡◌, ◌≤◌, length};
 ghost use Rattle.o32.specs.O32.{O32};
-ghost use Rattle.answers.specs.Outcomes.{answer_of, buffer_of};
+ghost use Rattle.answers.specs.Outcomes.{answer_of, buffer_of, in_numbers};
 ghost use Rattle.carried.specs.Convention.{read_into, write_into};
 ghost use Rattle.device.specs.declared.Device.{Device};
 ghost use Rattle.varargs.specs.Walking.{walk_into};
 ghost use Rattle.plans.specs.Plans.{fill_into, make_into, signature_into};
 ghost use Rattle.descriptions.specs.Describing.{described};
 ghost use Rattle.descriptions.specs.Descriptions.{place_most};
+ghost use Rattle.descriptions.specs.Structures.{structure_in_numbers};
 ghost use Rattle.frame.specs.Frame.{layout_of};
+ghost use Rattle.frame.specs.Layout.{layout_in_numbers};
 ghost use Rattle.frame_code.specs.Code.{epilogue_into, prologue_into};
 ghost use Rattle.prologues.specs.Checking.{checked};
+ghost use Rattle.prologues.specs.Verdict.{verdict_in_numbers};
 ghost use Rattle.capi.specs.Numbers.{device_of, layout_numbers, narrow, request_of, structure_numbers, verdict_numbers};
 
-use answers::Answer;
+use answers::{Cause, Refusal};
 use descriptions::Structure;
 use device::Device;
-use frame::Request;
+use frame::{Frame, Request};
+use prologues::Finding;
 
 // A refusal, its place and its argument's number, or 0, 0, 0 and the length of what was written.
 #[repr(C)]
-#[derive(Clone, Copy)]
+#[derive(Clone, Copy, Default)]
 pub struct O32Answer {
     pub refusal: u32,
     pub place: u32,
@@ -32,7 +37,7 @@ pub struct O32Answer {
 
 // A frame: a refusal and all other numbers 0, or 0, 0 and the frame's numbers. `gp_saved` is 1 for yes and 0 for no.
 #[repr(C)]
-#[derive(Clone, Copy)]
+#[derive(Clone, Copy, Default)]
 pub struct O32Layout {
     pub refusal: u32,
     pub place: u32,
@@ -47,7 +52,7 @@ pub struct O32Layout {
 
 // A structure that was described: a refusal, its place and all other numbers 0, or 0, 0 and the structure's numbers.
 #[repr(C)]
-#[derive(Clone, Copy)]
+#[derive(Clone, Copy, Default)]
 pub struct O32Structure {
     pub refusal: u32,
     pub place: u32,
@@ -58,48 +63,102 @@ pub struct O32Structure {
 
 // What is answered for code that is sent as a prologue: a refusal, its place and 0, or 0, 0 and the verdict.
 #[repr(C)]
-#[derive(Clone, Copy)]
+#[derive(Clone, Copy, Default)]
 pub struct O32Verdict {
     pub refusal: u32,
     pub place: u32,
     pub verdict: u32,
 }
 
-// An answer in 32-bit numbers. No answer has a larger place or length than 1,057, or a larger argument than 33.
-fn narrowed(answer: Answer) -> O32Answer
-    requires { (answer.place ≤ 1057) × (answer.argument ≤ 33) × (answer.length ≤ 1057) }
-    ensures { result ≡ narrow answer }
+// An answer in 32-bit numbers. (A function and no `From`, since it asks for small numbers.) No answer has a larger place or length than 1,057, or a larger argument than 33.
+fn narrowed(answer: Result<usize, Refusal>) -> O32Answer
+    requires { ((in_numbers answer).place ≤ 1057) × ((in_numbers answer).argument ≤ 33) × ((in_numbers answer).length ≤ 1057) }
+    ensures { result ≡ narrow (in_numbers answer) }
 {
-    let place = answer.place as u32;
-    let argument = answer.argument as u32;
-    let length = answer.length as u32;
-    O32Answer {
-        refusal: answer.refusal,
-        place,
-        argument,
-        length,
+    match answer {
+        Ok(length) => O32Answer {
+            length: length as u32,
+            ..O32Answer::default()
+        },
+        Err(
+            Refusal {
+                cause,
+                place,
+                argument,
+            },
+        ) => O32Answer {
+            refusal: cause.number(),
+            place: place as u32,
+            argument: argument as u32,
+            length: 0,
+        },
     }
 }
 
-// A structure in 32-bit numbers. No place is larger than 39,954, however long a description is.
-fn structure_numbers(structure: Structure) -> O32Structure
-    requires { (structure.place ≤ place_most) × (structure.size ≤ 512) × (structure.alignment ≤ 8) }
-    ensures { result ≡ structure_numbers structure }
-{
-    let place = structure.place as u32;
-    let size = structure.size as u32;
-    let alignment = structure.alignment as u32;
-    let kind = structure.kind as u32;
-    O32Structure {
-        refusal: structure.refusal,
-        place,
-        size,
-        alignment,
-        kind,
+// A layout in C's numbers.
+impl From<Result<Frame, Cause>> for O32Layout {
+    ghost from_gives = { λ answer layout. layout ≡ layout_numbers (layout_in_numbers answer) };
+
+    fn from(answer: Result<Frame, Cause>) -> O32Layout {
+        match answer {
+            Ok(frame) => O32Layout {
+                refusal: 0,
+                place: 0,
+                frame: frame.frame,
+                build: frame.build,
+                floating: frame.floating,
+                general: frame.general,
+                locals: frame.locals,
+                gp_saved: frame.gp.is_some() as u32,
+                gp: frame.gp.unwrap_or(0),
+            },
+            Err(cause) => O32Layout {
+                refusal: cause.number(),
+                ..O32Layout::default()
+            },
+        }
     }
 }
 
-// A device as C hands it over.
+// What a check found, in C's numbers.
+impl From<Result<Finding, Cause>> for O32Verdict {
+    ghost from_gives = { λ answer verdict. verdict ≡ verdict_numbers (verdict_in_numbers answer) };
+
+    fn from(answer: Result<Finding, Cause>) -> O32Verdict {
+        match answer {
+            Ok(finding) => O32Verdict {
+                verdict: finding.number(),
+                ..O32Verdict::default()
+            },
+            Err(cause) => O32Verdict {
+                refusal: cause.number(),
+                ..O32Verdict::default()
+            },
+        }
+    }
+}
+
+// A structure in 32-bit numbers, by a function for the same reason. No place is larger than 39,954, however long a description is.
+fn structure_numbers(answer: Result<Structure, Refusal>) -> O32Structure
+    requires { ((structure_in_numbers answer).place ≤ place_most) × ((structure_in_numbers answer).size ≤ 512) × ((structure_in_numbers answer).alignment ≤ 8) }
+    ensures { result ≡ structure_numbers (structure_in_numbers answer) }
+{
+    match answer {
+        Ok(structure) => O32Structure {
+            size: structure.size as u32,
+            alignment: structure.alignment as u32,
+            kind: structure.kind as u32,
+            ..O32Structure::default()
+        },
+        Err(refusal) => O32Structure {
+            refusal: refusal.cause.number(),
+            place: refusal.place as u32,
+            ..O32Structure::default()
+        },
+    }
+}
+
+// A device as C hands it over. (A `From` would stand where neither type is this crate's.)
 fn as_device(number: u32) -> Device
     ensures { result ≡ device_of number }
 {
@@ -207,8 +266,7 @@ pub extern "C" fn o32_fill(device: u32, plan: &[u32], list: &[u8], image: &mut [
 pub extern "C" fn o32_describe(description: &[u8]) -> O32Structure
     ensures { result ≡ structure_numbers (described description.now) }
 {
-    let structure = descriptions_code::describe(description);
-    structure_numbers(structure)
+    structure_numbers(descriptions_code::describe(description))
 }
 
 // The frame of a request on a device.
@@ -224,19 +282,7 @@ pub extern "C" fn o32_frame(
     ensures { result ≡ layout_numbers (layout_of (device_of device) (request_of leaf locals outgoing general pairs)) }
 {
     let request = as_request(leaf, locals, outgoing, general, pairs);
-    let layout = frame_code::layout_of(as_device(device), request);
-    let gp_saved = layout.gp_saved as u32;
-    O32Layout {
-        refusal: layout.refusal,
-        place: layout.place,
-        frame: layout.frame,
-        build: layout.build,
-        floating: layout.floating,
-        general: layout.general,
-        locals: layout.locals,
-        gp_saved,
-        gp: layout.gp,
-    }
+    frame_code::layout_of(as_device(device), request).into()
 }
 
 // The prologue of a request on a device.
@@ -291,10 +337,5 @@ pub extern "C" fn o32_check_prologue(
     ensures { result ≡ verdict_numbers (checked (device_of device) (request_of leaf locals outgoing general pairs) code.now) }
 {
     let request = as_request(leaf, locals, outgoing, general, pairs);
-    let verdict = prologues_code::check_prologue(as_device(device), request, code);
-    O32Verdict {
-        refusal: verdict.refusal,
-        place: verdict.place,
-        verdict: verdict.verdict,
-    }
+    prologues_code::check_prologue(as_device(device), request, code).into()
 }

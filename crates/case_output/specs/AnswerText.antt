@@ -1,6 +1,8 @@
 -- The text of an answer, as it is printed below its case.
-use Rattle.std.specs.Prelude.{List, [], ◌∷◌, ◌++◌, Bool, true, false, cond, ◌&&◌, ◌||◌, ℕ, zero, suc, ◌+◌, ◌%◌, length, get_or, take, drop, eqb}
+use Rattle.std.specs.Prelude.{List, [], ◌∷◌, ◌++◌, Bool, true, false, cond, ◌&&◌, ◌||◌, ℕ, zero, suc, ◌+◌, ◌%◌, length, get_or, take, drop, eqb, ◌==◌, unwrap_or}
+use Rattle.std.specs.List.{list_all}
 use Rattle.answers.specs.declared.Answer.{Answer}
+use Rattle.case_input.specs.Lines.{place_of}
 use Rattle.text.specs.Text.{hex_text, decimal, refusal_text}
 
 -- A byte as hex digits: a space before a word, a newline after four words and at the end.
@@ -23,8 +25,7 @@ refusal_part number place argument = cond (is_clear number place argument) [] (r
 
 -- Whether every byte is still what the buffers of cases are filled with.
 abbrev pub is_kept : List ℕ → Bool
-is_kept [] = true
-is_kept (b ∷ l) = cond (eqb b 165) (is_kept l) false
+is_kept out = list_all (λ b. b == 165) out
 
 -- ", kept" or ", CHANGED", and a newline.
 abbrev pub kept_text : Bool → List ℕ
@@ -40,3 +41,7 @@ abbrev pub answer_text : Answer → List ℕ → List ℕ
 answer_text a out =
     refusal_part a.refusal a.place a.argument ++ bytes_text (take a.length out) (length (take a.length out)) ++ length_word ++ decimal a.length
     ++ kept_text (is_kept (drop a.length out))
+
+-- Where the line at the start of a text ends: before its newline, or with the text.
+abbrev pub line_length : List ℕ → ℕ
+line_length text = unwrap_or (place_of 10 text) (length text)

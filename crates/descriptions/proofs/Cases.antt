@@ -6,7 +6,7 @@ use mathlib.Core.Bool.{Bool, true, ◌&&◌}
 use Prim.Native.Nat.{ℕ, zero, suc}
 use lib.Dec.{T, eqb}
 use lib.ListN.{replicate}
-use Rattle.descriptions.specs.declared.Structure.{Structure}
+use Rattle.descriptions.specs.Structures.{Structure}
 use Rattle.descriptions.specs.Trees.{kind_among}
 use Rattle.descriptions.specs.Describing.{judge, refused, describe_from, described}
 use Rattle.descriptions.specs.Descriptions.{place_most}

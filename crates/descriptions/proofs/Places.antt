@@ -12,7 +12,7 @@ use lib.ListN.{length}
 use borrow.Author.Tests.{ltb-true, leb-true, eqb-false}
 use Rattle.words.specs.Words.{up}
 use Rattle.o32_offsets.proofs.Offsets.{up-ge}
-use Rattle.descriptions.specs.declared.Structure.{Structure}
+use Rattle.descriptions.specs.Structures.{Structure}
 use Rattle.descriptions.specs.Trees.{kind_for}
 use Rattle.descriptions.specs.Describing.{end_most, Open, empty, append, Around, State, start, inside, counting, repeated, closed, Step, refuse, go, scalar_bytes, placed, levels, typed, ended, close, judge, finish, proceed, describe_from, described}
 use Rattle.descriptions.specs.Descriptions.{place_most}

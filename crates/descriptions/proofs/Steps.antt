@@ -1,10 +1,9 @@
 -- Steps of one byte: by the test that chooses one, and whether two are the same.
 -- Assumes nothing.
-use mathlib.Core.Path.{◌≡◌, refl, ap}
+use mathlib.Core.Path.{◌≡◌, refl}
 use mathlib.Core.Bool.{Bool, true, false, cond}
 use Prim.Native.Nat.{ℕ}
-use Rattle.words.proofs.Impossible.{impossible}
-use Rattle.descriptions.specs.Describing.{State, start, Step, refuse, go}
+use Rattle.descriptions.specs.Describing.{State, Step, refuse, go}
 
 -- a property of what a test chooses
 pub decided : {A : Type 0} (P : A → Type 0) (t : Bool) {a b : A} → (t ≡ true → P a) → (t ≡ false → P b) → P (cond t a b)
@@ -15,26 +14,11 @@ decided P false f g = g refl
 pub by_test : {A : Type 0} (t : Bool) {x y z : Step} → cond t x y ≡ z → (t ≡ true → x ≡ z → A) → (t ≡ false → y ≡ z → A) → A
 by_test {A} t {z = z} e f g = decided (λ (s : Step). s ≡ z → A) t f g e
 
-state : Step → State
-state (refuse r) = start
-state (go st) = st
-
-number : Step → ℕ
-number (refuse r) = r
-number (go st) = 0
-
 pub go_same : {x y : State} → go x ≡ go y → x ≡ y
-unfolding state
-go_same e = ap state e
+go_same e = cc
 
 pub refuse_same : {r q : ℕ} → refuse r ≡ refuse q → r ≡ q
-unfolding number
-refuse_same e = ap number e
-
-goes : Step → ℕ
-goes (refuse r) = 0
-goes (go st) = 1
+refuse_same e = cc
 
 pub refuse_no : {A : Type 0} {r : ℕ} {st : State} → refuse r ≡ go st → A
-unfolding goes
-refuse_no e = impossible (ap goes e)
+refuse_no e = absurd (cc)

@@ -12,7 +12,7 @@ use Rattle.words.specs.Words.{up}
 use Rattle.kinds.specs.declared.Class.TheVariants as Class
 use Rattle.kinds.specs.Kinds.{kind_of, is, class_number}
 use Rattle.o32_offsets.specs.Offsets.{width, offset, ending}
-use Rattle.descriptions.specs.declared.Structure.{Structure}
+use Rattle.descriptions.specs.Structures.{Structure}
 use Rattle.descriptions.specs.Trees.{Members, structure, alignment, size, Laid, kind_for}
 use Rattle.descriptions.specs.Spelling.{Spells}
 use Rattle.descriptions.specs.Describing.{State, start, inside, counting, repeated, closed, levels, refused, answered, described}

@@ -3,7 +3,7 @@
 use Rattle.std.specs.Prelude.{List, [], ◌∷◌, cond, ◌&&◌, ℕ, ◌+◌, ◌*◌, max, eqb, leb, ltb, length}
 use Rattle.words.specs.Words.{up}
 use Rattle.kinds.specs.Kinds.{kind_of}
-use Rattle.descriptions.specs.declared.Structure.{Structure}
+use Rattle.descriptions.specs.Structures.{Structure}
 use Rattle.descriptions.specs.Trees.{kind_for}
 
 -- ---- what the bytes so far leave open

@@ -5,7 +5,7 @@ use Rattle.words.specs.Words.{up}
 use Rattle.kinds.specs.declared.Class.TheVariants as Class
 use Rattle.kinds.specs.Kinds.{kind_of, is}
 use Rattle.o32_offsets.specs.Offsets.{offset, ending}
-use Rattle.descriptions.specs.declared.Structure.{Structure}
+use Rattle.descriptions.specs.Structures.{Structure}
 use Rattle.descriptions.specs.Trees.{Member, Members, structure, alignment, size, end_from, depth, Unrepeated, Proper, Laid}
 use Rattle.descriptions.specs.Spelling.{spelling, Spells}
 use Rattle.descriptions.specs.Beginnings.{Count, Opened, Inside}

@@ -1,3 +1,4 @@
+pub mod Structures
 pub mod Trees
 pub mod Spelling
 pub mod Describing

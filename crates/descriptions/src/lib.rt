@@ -1,12 +1,10 @@
 // Structures from descriptions: the data that the definitions in specs/ speak of. There is no code here.
 #![tactic(auto)]
 
-// A structure that was described: a refusal, its place and all other numbers 0, or 0, 0 and the structure's numbers.
+// A structure that was described.
 #[derive(Clone, Copy)]
 pub struct Structure {
-    pub refusal: u32,
-    pub place: usize,
-    // bytes of the structure
+    // its bytes
     pub size: usize,
     // its natural alignment: 1, 2, 4 or 8
     pub alignment: usize,

@@ -11,59 +11,37 @@
 // The answer is the refusal, if there is one; then the size and the alignment, in decimal, and the kind byte.
 #![tactic(auto)]
 
-ghost use Rattle.std.specs.Prelude.{◌≤◌, length};
-
+use case_output::{print, print_byte, print_number};
 use descriptions::Structure;
 
-// Where the text of cases comes from, and where the answers go.
-const STDIN_FILENO: i32 = 0;
+// What is printed of a structure that was refused.
+const NO_STRUCTURE: Structure = Structure {
+    size: 0,
+    alignment: 0,
+    kind: 0,
+};
 
-const STDOUT_FILENO: i32 = 1;
-
-// All parts of an answer.
 fn print_structure(structure: Structure) {
-    case_output::print_refusal(structure.refusal, structure.place, 0);
-    io::write_all(STDOUT_FILENO, b"size ");
-    io::print_decimal(STDOUT_FILENO, structure.size as u64);
-    io::write_all(STDOUT_FILENO, b", alignment ");
-    io::print_decimal(STDOUT_FILENO, structure.alignment as u64);
-    io::write_all(STDOUT_FILENO, b", kind ");
-    let kind = structure.kind;
-    let digits = [text::high_digit(kind), text::low_digit(kind), b'\n'];
-    io::write_all(STDOUT_FILENO, &digits);
+    print_number(b"size ", structure.size as u64);
+    print_number(b", alignment ", structure.alignment as u64);
+    print_byte(b", kind ", structure.kind);
+    print(b"\n");
 }
 
-// The case of a line. A comment is none.
-fn run(line: &[u8])
-    requires { 1 ≤ length line.now }
-{
-    if line[0] == b'#' {
-        return;
-    }
-    let space = case_input::find(line, 0, b' ');
+// The structure of the description in a line, if it is in such bytes.
+fn run(line: &[u8]) -> Option<()> {
     let mut description = io::buffer();
-    let n = case_input::put_field(line, space, line.len(), &mut description);
-    if n > 4096 {
-        io::write_all(STDOUT_FILENO, b"malformed\n");
-        return;
-    }
-    print_structure(descriptions_code::describe(&description[..n]));
-}
-
-// Prints each line of a text, and runs its case.
-fn run_lines(text: &[u8]) {
-    let mut at = 0;
-    while at < text.len() {
-        let end = case_output::print_line(text, at);
-        if end > at {
-            run(&text[at..end]);
+    let n = case_input::put_field(case_input::after_word(line), &mut description)?;
+    match descriptions_code::describe(&description[..n]) {
+        Ok(structure) => print_structure(structure),
+        Err(refusal) => {
+            case_output::print_refusal(refusal.cause.number(), refusal.place, refusal.argument);
+            print_structure(NO_STRUCTURE);
         }
-        at = end + 1;
     }
+    Some(())
 }
 
 fn main() {
-    let mut text = [0u8; 16384];
-    let n = io::read_full(STDIN_FILENO, &mut text);
-    run_lines(&text[..n]);
+    case_output::run_input::<16384, _>(run);
 }

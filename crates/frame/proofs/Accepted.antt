@@ -15,7 +15,7 @@ use Rattle.frame.specs.Masks.{count_below}
 use Rattle.frame.specs.Frame.{savable_registers, savable, pairs_most, names_unsavable, has_pairs_without_unit, loses_return, locals_most, exceeds_locals, outgoing_most, exceeds_outgoing, refusal_of, build_for, build_of, general_at, locals_at, frame_of, frame_most, accepted_layout, refused_layout, layout_of}
 use Rattle.frame.specs.Largest.{registers_most, area_most}
 use Rattle.frame.specs.declared.Request.{Request}
-use Rattle.frame.specs.declared.Layout.{Layout}
+use Rattle.frame.specs.Layout.{Layout}
 use Rattle.frame.proofs.Masks.{ones_all, count_below_le}
 use Rattle.frame.proofs.Savable.{names_few, savable-word, savable_low}
 
@@ -40,12 +40,7 @@ pub record Accepted (r : Request) : Type 0 where
 
 all-false : (a b c d e : Bool) → ◌≡◌ {A = ℕ} (cond a 9 (cond b 14 (cond c 10 (cond d 11 (cond e 12 0))))) 0
     → (a ≡ false) × (b ≡ false) × (c ≡ false) × (d ≡ false) × (e ≡ false)
-all-false true b c d e z = absurd (omega arith)
-all-false false true c d e z = absurd (omega arith)
-all-false false false true d e z = absurd (omega arith)
-all-false false false false true e z = absurd (omega arith)
-all-false false false false false true z = absurd (omega arith)
-all-false false false false false false z = (refl, refl, refl, refl, refl)
+all-false a b c d e z = grind arith
 
 or-false : (a b : Bool) → (a || b) ≡ false → (a ≡ false) × (b ≡ false)
 or-false true b e = absurd (true≢false e)
@@ -82,8 +77,7 @@ counted {r} s = record {
 }
 
 pub build_le : (leaf : Bool) (n : ℕ) → n ≤ outgoing_most → (build_for leaf n ≤ outgoing_most) × (build_for leaf n % 8 ≡ 0)
-build_le true n h = (omega arith, omega arith)
-build_le false n h = (omega arith, omega arith)
+build_le leaf n h = grind arith
 
 pub accepted : (d : Device) (r : Request) → refusal_of d r ≡ 0 → Accepted r
 accepted d r e =

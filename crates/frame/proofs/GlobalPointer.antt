@@ -7,7 +7,7 @@ use Prim.Native.Nat.{ℕ, ◌+◌}
 use native.Mathlib.Omega.{arith}
 use Rattle.device.specs.declared.Device.{Device}
 use Rattle.frame.specs.declared.Request.{Request}
-use Rattle.frame.specs.declared.Layout.{Layout}
+use Rattle.frame.specs.Layout.{Layout}
 use Rattle.frame.specs.Frame.{refusal_of, locals_at, offset_of_register, saves_gp, gp_at, accepted_layout, layout_of}
 use Rattle.frame.specs.Keeping.{Keeps}
 use Rattle.frame.specs.GlobalPointer.{PlacedInOrder, KeepsGp, SaysGp}

@@ -3,7 +3,7 @@
 use mathlib.Core.Path.{refl}
 use Prim.Native.Nat.{◌+◌, ◌≤◌}
 use native.Mathlib.Omega.{arith}
-use Rattle.frame.specs.declared.Layout.{Layout}
+use Rattle.frame.specs.Layout.{Layout}
 use Rattle.frame.specs.Masks.{count_below}
 use Rattle.frame.specs.Frame.{frame_most, refusal_of, general_at, locals_at, frame_of, gp_at, layout_of}
 use Rattle.frame.specs.Largest.{area_most, Largest}

@@ -1,10 +1,9 @@
 -- Masks: what they count and name, and masks within other masks.
 -- Assumes nothing.
-use mathlib.Core.Path.{◌≡◌, refl, sym, ap, ap₂, ◌∙◌, subst}
+use mathlib.Core.Path.{◌≡◌, refl, sym, ap, ap₂, ◌∙◌}
 use mathlib.Core.Bool.{true, false}
 use Prim.Native.Nat.{ℕ, zero, suc, ◌+◌, ◌/◌, ◌%◌, ◌^◌, ◌<◌, ◌≤◌}
 use native.Mathlib.Omega.{arith}
-use native.Mathlib.Decide.{ℕ_discrete}
 use native.Mathlib.Nat.{mod-lt, mod-eq_of_lt, add_comm}
 use lib.Pow.{mod-pow-add, pow_pos}
 use lib.Bits.{bit_and, and_le_r, and_shr, and_mod}
@@ -45,11 +44,7 @@ count_below_le m (suc k) = omega (arith, count_below_le m k, bit-lt m k)
 pub count_below_named : (m j k : ℕ) → names m j ≡ true → j < k → count_below m j + 1 ≤ count_below m k
 unfolding count_below
 count_below_named m j zero e h = absurd (omega arith)
-count_below_named m j (suc k) e h = by (ℕ_discrete j k) (λ q. count_below_named m j k e q)
-  where
-    by : Dec (j ≡ k) → (j < k → count_below m j + 1 ≤ count_below m k) → count_below m j + 1 ≤ count_below m k + bit m k
-    by (yes q) earlier = subst (λ (i : ℕ). count_below m j + 1 ≤ count_below m i + bit m i) q (omega (arith, eqb-true (bit m j) 1 e))
-    by (no n) earlier = omega (arith, earlier (omega arith))
+count_below_named m j (suc k) e h = grind (arith, eqb-true (bit m j) 1 e, count_below_named m j k e)
 
 -- a mask with no bit below k names none there
 pub count_below_none : (m k : ℕ) → m % 2 ^ k ≡ 0 → count_below m k ≡ 0

@@ -41,8 +41,7 @@ savable-bit : (k : ℕ) → k < 32 → bit savable k ≡ cond (lists savable_reg
 savable-bit k h = eqb-true (bit savable k) _ (agrees_at 32 k tt h)
 
 bit-set : (b : Bool) → 1 ≤ cond b 1 0 → T b
-bit-set true h = tt
-bit-set false h = absurd (omega arith)
+bit-set b h = grind arith
 
 savable-count : count_below savable 32 ≡ length savable_registers
 unfolding count_below

@@ -1,7 +1,7 @@
 -- Lists of saves: what holds of all of them, where their words lie, and what their registers hold.
 -- Assumes nothing.
-use mathlib.Core.Path.{◌≡◌, refl}
-use mathlib.Core.Bool.{Bool, true, false, cond}
+use mathlib.Core.Path.{◌≡◌}
+use mathlib.Core.Bool.{false, cond}
 use mathlib.Core.List.{List, [], ◌∷◌, ◌++◌}
 use Prim.Native.Nat.{ℕ, ◌+◌, ◌%◌, ◌^◌, ◌<◌, ◌≤◌}
 use native.Mathlib.Omega.{arith}
@@ -68,8 +68,4 @@ contents s v = cond v.float s.freg s.reg v.number
 -- a change of `$sp` alone does not change it
 pub contents-same : (s t : State) (v : Save) → ((k : ℕ) → (k ≡ 29 → ⊥) → t.reg k ≡ s.reg k) → ((k : ℕ) → t.freg k ≡ s.freg k) → Fit v
     → contents t v ≡ contents s v
-contents-same s t v g f h = by v.float h.keeps
-  where
-    by : (b : Bool) → (b ≡ false → v.number ≡ 29 → ⊥) → cond b t.freg t.reg v.number ≡ cond b s.freg s.reg v.number
-    by true k = f v.number
-    by false k = g v.number (k refl)
+contents-same s t v g f h = grind (arith, f v.number, g v.number, h.keeps)

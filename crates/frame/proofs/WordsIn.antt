@@ -27,8 +27,7 @@ length_bytes_of_words (w ∷ ws) = omega (arith, length_bytes_of_words ws)
 -- an instruction on a save word; its opcode and `$sp` are x or y
 small_word : (b : Bool) (x y : ℕ) (v : Save) → x < 2 ^ 32 - 2 ^ 21 → y < 2 ^ 32 - 2 ^ 21 → Fit v → v.offset < 2 ^ 15
     → word_of (cond b x y) v < 2 ^ 32
-small_word true x y v h k f o = omega arith
-small_word false x y v h k f o = omega arith
+small_word b x y v h k f o = grind arith
 
 small_each : (x y F lo : ℕ) (vs : List Save) (ws : List ℕ) → x < 2 ^ 32 - 2 ^ 21 → y < 2 ^ 32 - 2 ^ 21 → F < 2 ^ 15
     → All Fit vs → Span lo vs F → Small ws → Small (map (λ v. word_of (cond v.float x y) v) vs ++ ws)
@@ -49,8 +48,4 @@ module _ (F : ℕ) (vs : List Save) (d : Sound F vs) where
 
   pub epilogue_small : Small (epilogue_for F vs)
   unfolding epilogue_for
-  epilogue_small = small_each 0xC7A00000 0x8FA00000 F 0 vs _ (omega arith) (omega arith) d.small d.fit d.span (omega arith, (by (eqb F 0), tt))
-    where
-      by : (b : Bool) → cond b 0 (0x27BD0000 + F) < 2 ^ 32
-      by true = omega arith
-      by false = omega (arith, d.small)
+  epilogue_small = small_each 0xC7A00000 0x8FA00000 F 0 vs _ (omega arith) (omega arith) d.small d.fit d.span (omega arith, (grind (arith, d.small), tt))

@@ -5,7 +5,7 @@ use Rattle.words.specs.Words.{up}
 use Rattle.device.specs.declared.Device.{Device}
 use Rattle.device.specs.declared.Device.TheVariants.{Fpu, NoFpu}
 use Rattle.frame.specs.declared.Request.{Request}
-use Rattle.frame.specs.declared.Layout.{Layout}
+use Rattle.frame.specs.Layout.{Layout}
 use Rattle.frame.specs.Masks.{names, count_below, mask_of}
 
 -- The general registers that may be saved: "`$16`..`$23`, `$30`, `$31`"; request (ix) of document 02: "Admit `$28` in the general

@@ -2,7 +2,7 @@
 use Rattle.std.specs.Prelude.{◌≡◌, List, true, false, ℕ, ◌+◌, ◌<◌, ◌≤◌}
 use Rattle.machine.specs.Machine.{State, Runs}
 use Rattle.frame.specs.declared.Request.{Request}
-use Rattle.frame.specs.declared.Layout.{Layout}
+use Rattle.frame.specs.Layout.{Layout}
 use Rattle.frame.specs.Masks.{names}
 use Rattle.frame.specs.Frame.{offset_of_register}
 use Rattle.frame.specs.Keeping.{Ready, Entry, Body, words_in}

@@ -1,3 +1,4 @@
+pub mod Layout
 pub mod Masks
 pub mod Frame
 pub mod Largest

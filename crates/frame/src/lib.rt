@@ -16,11 +16,9 @@ pub struct Request {
     pub pairs: u32,
 }
 
-// A frame: a refusal, then 0 for every number and no for `$28`; or 0, 0 and what the frame is. Offsets are from `$sp`.
+// A frame. Offsets are from `$sp`.
 #[derive(Clone, Copy)]
-pub struct Layout {
-    pub refusal: u32,
-    pub place: u32,
+pub struct Frame {
     // F, the bytes of the frame
     pub frame: u32,
     // B, the bytes of the argument build area
@@ -31,8 +29,6 @@ pub struct Layout {
     pub general: u32,
     // where the locals start
     pub locals: u32,
-    // whether `$28`, the global pointer, is saved
-    pub gp_saved: bool,
-    // the offset of its save word, which may be 0 too; 0 if it is not saved
-    pub gp: u32,
+    // the offset of the save word of `$28`, the global pointer, where it is saved
+    pub gp: Option<u32>,
 }

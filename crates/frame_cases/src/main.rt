@@ -19,42 +19,36 @@
 
 ghost use Rattle.std.specs.Prelude.{◌≤◌, length};
 
-use answers::Answer;
+use answers::Refusal;
+use case_output::{print, print_number};
 use device::Device;
-use frame::{Layout, Request};
-use prologues::Verdict;
+use frame::{Frame, Request};
 
-// Where the text of cases comes from, and where the answers go.
-const STDIN_FILENO: i32 = 0;
-
-const STDOUT_FILENO: i32 = 1;
-
-// A text to standard output. Of what is printed the language has nothing to promise.
-fn print(text: &[u8]) {
-    io::write_all(STDOUT_FILENO, text);
-}
-
-fn print_number(name: &[u8], n: u32) {
-    print(name);
-    io::print_decimal(STDOUT_FILENO, n as u64);
-}
+// What is printed of the frame of a request that was refused.
+const NO_FRAME: Frame = Frame {
+    frame: 0,
+    build: 0,
+    floating: 0,
+    general: 0,
+    locals: 0,
+    gp: None,
+};
 
 // The yes or no for $28, and its offset.
-fn print_gp(saved: bool, offset: u32) {
-    if saved {
-        return print_number(b", $28 yes ", offset);
-    }
-    print_number(b", $28 no ", offset);
+fn print_gp(gp: Option<u32>) {
+    match gp {
+        Some(offset) => print_number(b", $28 yes ", offset as u64),
+        None => print_number(b", $28 no ", 0),
+    };
 }
 
-fn print_layout(layout: Layout) {
-    case_output::print_refusal(layout.refusal, layout.place as usize, 0);
-    print_number(b"F ", layout.frame);
-    print_number(b", B ", layout.build);
-    print_number(b", floating ", layout.floating);
-    print_number(b", general ", layout.general);
-    print_number(b", locals ", layout.locals);
-    print_gp(layout.gp_saved, layout.gp);
+fn print_layout(frame: Frame) {
+    print_number(b"F ", frame.frame as u64);
+    print_number(b", B ", frame.build as u64);
+    print_number(b", floating ", frame.floating as u64);
+    print_number(b", general ", frame.general as u64);
+    print_number(b", locals ", frame.locals as u64);
+    print_gp(frame.gp);
     print(b"\n");
 }
 
@@ -71,102 +65,84 @@ fn request_of(words: &[u8]) -> Request
     }
 }
 
-// The prologue or, where control goes back, the epilogue of a request.
-fn code_of(device: Device, request: Request, back: bool, out: &mut [u8]) -> Answer {
-    if back {
-        return frame_code::epilogue(device, request, out);
-    }
-    frame_code::prologue(device, request, out)
-}
-
-fn print_code(device: Device, room: usize, request: Request, back: bool)
-    requires { room ≤ 4096 }
+// The prologue or the epilogue of a request, with a buffer of so many bytes.
+fn print_code<F: Fn(Device, Request, &mut [u8]) -> Result<usize, Refusal>>(
+    code: F,
+    device: Device,
+    room: usize,
+    request: Request,
+)
+    requires always { F.IsAlwaysCallable code }
+    requires room_bound { room ≤ 4096 }
 {
     let mut out = case_output::fresh_buffer();
-    let answer = code_of(device, request, back, &mut out[..room]);
-    case_output::print_answer(answer, &out);
+    let answer = code(device, request, &mut out[..room]);
+    case_output::print_answer(answer.into(), &out);
 }
 
 // The layout, the prologue and the epilogue of a request.
 fn print_frame(device: Device, room: usize, request: Request)
     requires { room ≤ 4096 }
 {
-    print_layout(frame_code::layout_of(device, request));
+    match frame_code::layout_of(device, request) {
+        Ok(frame) => print_layout(frame),
+        Err(cause) => {
+            case_output::print_refusal(cause.number(), 0, 0);
+            print_layout(NO_FRAME);
+        }
+    }
     print(b"prologue\n");
-    print_code(device, room, request, false);
+    print_code(frame_code::prologue, device, room, request);
     print(b"epilogue\n");
-    print_code(device, room, request, true);
-}
-
-// The answer to a line that has another form.
-fn malformed() {
-    print(b"malformed\n");
+    print_code(frame_code::epilogue, device, room, request);
 }
 
 // A frame.
-fn run_frame(device: Device, line: &[u8]) {
-    let room = case_input::room(line);
-    let mut words = io::buffer();
-    let n = case_input::put_field(line, room.end, line.len(), &mut words);
+fn run_frame(device: Device, line: &[u8]) -> Option<()> {
+    let room = case_input::room(line)?;
+    let mut words = [0u8; 20];
+    let n = case_input::put_field(&line[room.end..], &mut words)?;
     if n != 20 || room.value > 4096 {
-        return malformed();
+        return None;
     }
     print_frame(device, room.value, request_of(&words));
+    Some(())
 }
 
-fn print_verdict(answer: Verdict) {
-    case_output::print_refusal(answer.refusal, answer.place as usize, 0);
-    print_number(b"verdict ", answer.verdict);
+fn print_verdict(verdict: u32) {
+    print_number(b"verdict ", verdict as u64);
     print(b"\n");
 }
 
 // A check of code, which comes after a comma.
-fn run_check(device: Device, line: &[u8]) {
-    let space = case_input::find(line, 0, b' ');
-    let comma = case_input::find(line, space, b',');
-    if comma >= line.len() {
-        return malformed();
-    }
-    let mut words = io::buffer();
-    if case_input::put_field(line, space, comma, &mut words) != 20 {
-        return malformed();
-    }
+fn run_check(device: Device, line: &[u8]) -> Option<()> {
+    let mut words = [0u8; 20];
     let mut code = io::buffer();
-    let n = case_input::put_field(line, comma + 1, line.len(), &mut code);
-    if n > 4096 {
-        return malformed();
+    let (n, m) = case_input::put_pair(case_input::after_word(line), &mut words, &mut code)?;
+    if n != 20 {
+        return None;
     }
-    print_verdict(prologues_code::check_prologue(device, request_of(&words), &code[..n]));
+    match prologues_code::check_prologue(device, request_of(&words), &code[..m]) {
+        Ok(finding) => print_verdict(finding.number()),
+        Err(cause) => {
+            case_output::print_refusal(cause.number(), 0, 0);
+            print_verdict(0);
+        }
+    }
+    Some(())
 }
 
-// The case of a line. A comment is none.
-fn run(line: &[u8])
+// The case of a line, if it has one of these forms. The letters are the text's, so they are matched.
+fn run(line: &[u8]) -> Option<()>
     requires { 1 ≤ length line.now }
 {
-    if line[0] == b'#' {
-        return;
-    }
     let device = case_input::device_of(line);
     if case_input::letter(line) == b'c' {
         return run_check(device, line);
     }
-    run_frame(device, line);
-}
-
-// Prints each line of a text, and runs its case.
-fn run_lines(text: &[u8]) {
-    let mut at = 0;
-    while at < text.len() {
-        let end = case_output::print_line(text, at);
-        if end > at {
-            run(&text[at..end]);
-        }
-        at = end + 1;
-    }
+    run_frame(device, line)
 }
 
 fn main() {
-    let mut text = [0u8; 65536];
-    let n = io::read_full(STDIN_FILENO, &mut text);
-    run_lines(&text[..n]);
+    case_output::run_input::<65536, _>(run);
 }

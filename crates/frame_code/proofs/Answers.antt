@@ -1,4 +1,4 @@
--- The answers by case: refused, too short, done; and what a layout says.
+-- The answers by case: refused, too short, done; and what a frame says.
 -- Assumes nothing.
 use mathlib.Core.Path.{◌≡◌, refl, sym, ap, ◌∙◌}
 use mathlib.Core.List.{List, ◌++◌}
@@ -11,45 +11,65 @@ use lib.Seq.{sets, sets-eq}
 use lib.Dec.{eqb, ltb}
 use borrow.Author.Tests.{eqb-true, eqb-false, eq-eqb, ne_eqb, lt-ltb, le-ltb}
 use Rattle.device.specs.declared.Device.{Device}
-use Rattle.answers.specs.Outcomes.{Outcome, done, refused, answer_of, buffer_of}
+use Rattle.std.specs.Prelude.{Result, Ok, Err, IsErrAnd}
+use Rattle.answers.specs.declared.Cause.{Cause}
+use Rattle.answers.specs.declared.Refusal.{Refusal}
+use Rattle.answers.specs.Numbers.{number}
+use Rattle.answers.proofs.Numbers.{number_positive}
+use Rattle.answers.specs.Outcomes.{Outcome, done, refused, answer_of, buffer_of, in_numbers}
 use Rattle.frame.specs.declared.Request.{Request}
-use Rattle.frame.specs.declared.Layout.{Layout}
-use Rattle.frame.specs.Frame.{refusal_of, frame_of, frame_most, layout_of}
+use Rattle.frame.specs.declared.Frame.{Frame}
+use Rattle.frame.specs.Layout.{Layout, layout_in_numbers}
+use Rattle.frame.specs.Frame.{refusal_of, layout_of}
 use Rattle.words.specs.Words.{bytes_of_words}
 use Rattle.frame.proofs.Accepted.{accepted_savable, accepted, general_le, frame_le, layout_accepted, layout_cases}
 use Rattle.frame_code.specs.Areas.{Areas}
 use Rattle.frame_code.specs.Code.{code_into}
 
--- what the layout of an accepted request says, within its bounds
-pub record Laid (d : Device) (r : Request) (y : Layout) : Type 0 where
-  pub accepted : refusal_of d r ≡ 0
-  pub areas : Areas r y
-  pub frame : y.frame ≡ frame_of r
-  pub frame_le : y.frame ≤ frame_most
+module _ (d : Device) (r : Request) where
+  refusal_is : {y : Layout} → y ≡ layout_of d r → y.refusal ≡ refusal_of d r
+  refusal_is l = ap (λ (x : Layout). x.refusal) l ∙ layout_cases d r (λ (x : Layout). x.refusal ≡ refusal_of d r) sym (λ n. refl)
 
-module _ (d : Device) (r : Request) {y : Layout} (l : y ≡ layout_of d r) where
-  pub refusal_is : y.refusal ≡ refusal_of d r
-  refusal_is = ap (λ (x : Layout). x.refusal) l ∙ layout_cases d r (λ (x : Layout). x.refusal ≡ refusal_of d r) sym (λ n. refl)
+  -- where a frame is answered
+  module _ (f : Frame) (l : layout_in_numbers (Ok f) ≡ layout_of d r) where
+    pub answered_accepted : refusal_of d r ≡ 0
+    answered_accepted = sym (refusal_is l)
 
-  pub laid : y.refusal ≡ 0 → Laid d r y
-  laid z =
-      let e = sym refusal_is ∙ z in
-      let a = accepted d r e in
-      let q = l ∙ layout_accepted d r e in
-      let f = ap (λ (x : Layout). x.frame) q in
-      let p = ap (λ (x : Layout). x.floating) q in
-      let g = ap (λ (x : Layout). x.general) q in
-      record {
-        accepted = e;
-        areas =
-            record { masks = accepted_savable d r e; floating = p; general = g; floating_le = omega arith; general_le = omega (arith, general_le a) };
-        frame = f;
-        frame_le = omega (arith, frame_le a);
-      }
+    pub areas : Areas r f
+    areas =
+        let e = answered_accepted in
+        let a = accepted d r e in
+        let q = l ∙ layout_accepted d r e in
+        let p = ap (λ (x : Layout). x.floating) q in
+        let g = ap (λ (x : Layout). x.general) q in
+        let s = ap (λ (x : Layout). x.frame) q in
+        record {
+          masks = accepted_savable d r e;
+          frame = s;
+          frame_le = omega (arith, frame_le a);
+          floating = p;
+          general = g;
+          floating_le = omega arith;
+          general_le = omega (arith, general_le a);
+        }
 
-  pub code-refused : (y.refusal ≡ 0 → ⊥) → (ws : List ℕ) (room : ℕ) → code_into d r ws room ≡ refused y.refusal 0 0
-  unfolding code_into
-  code-refused n ws room = rw refusal_is (simp (ne_eqb (refusal_of d r) 0 (λ e. n (refusal_is ∙ e))))
+  -- where a cause is
+  module _ (c : Cause) (l : layout_in_numbers (Err c) ≡ layout_of d r) where
+    pub cause-is : number c ≡ refusal_of d r
+    cause-is = refusal_is l
+
+    pub cause-refused : refusal_of d r ≡ 0 → ⊥
+    cause-refused z = omega (arith, number_positive c, cause-is, z)
+
+    pub code-refused : (ws : List ℕ) (room : ℕ) → code_into d r ws room ≡ refused (number c) 0 0
+    unfolding code_into
+    code-refused ws room = rw cause-is (simp (ne_eqb (refusal_of d r) 0 cause-refused))
+
+    -- and is passed on, by `?`
+    pub code-passed : (x : Result ℕ Refusal) → IsErrAnd x (λ e. e ≡ record { cause = c; place = 0; argument = 0 })
+        → (ws : List ℕ) (room : ℕ) → in_numbers x ≡ answer_of (code_into d r ws room)
+    code-passed (Err e) h ws room = rw (code-refused ws room, h) refl
+    code-passed (Ok n) h ws room = absurd h
 
 -- what holds of each of the three answers holds of the one that is given
 pub code_cases : (d : Device) (r : Request) (ws : List ℕ) (room : ℕ) (P : Outcome → Type 0) → (refusal_of d r ≡ 0 → P (done (bytes_of_words ws)))

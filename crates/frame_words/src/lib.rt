@@ -1,5 +1,6 @@
 // What a mask names; the `addiu` of a prologue; and instructions on save words, upward into a code buffer: the stores of a prologue or
-// the loads of an epilogue. `op` is the instruction's word with register 0 and offset 0; `swc1`'s is the largest.
+// the loads of an epilogue. `op` is the instruction's word with register 0 and offset 0; `swc1`'s is the largest. (What is written is
+// promised for any such word, so no enum of the four stands for it.)
 #![tactic(auto)]
 
 ghost use Rattle.std.specs.Prelude.{[], ◌∷◌, map, ◌≡◌, ◌%◌, ◌*◌, ◌+◌, ◌-◌, ◌<◌, ◌≤◌, length};
@@ -34,13 +35,13 @@ pub fn word(op: u32, number: u32, offset: u32) -> u32
     op + 65536 * number + offset
 }
 
-// The low 16 bits of -f, through a signed halfword.
+// The low 16 bits of -f, through a signed halfword, as document 01 has it.
 fn negate(f: u32) -> u32
     requires { (0 < f) × (f ≤ frame_most) }
     ensures { result ≡ 65536 - f }
 {
     let n = -(f as i16);
-    ((n as i32) + 65536) as u32
+    n.cast_unsigned() as u32
 }
 
 // `addiu $sp,$sp,-f`.
@@ -50,6 +51,8 @@ pub fn lower_sp(f: u32) -> u32
 {
     0x27BD_0000 + negate(f)
 }
+
+// The functions below store at a place and answer the next one: a struct with the buffer in it would be taken apart at each store.
 
 // Two words at a place.
 pub fn put_two_words(out: &mut [u8], at: usize, first: u32, second: u32)
@@ -70,8 +73,9 @@ fn put_pair(out: &mut [u8], at: usize, op: u32, offset: u32, k: u32)
     put_two_words(out, at, even, odd);
 }
 
-// The instructions on the pairs that a mask names, whose save area starts at an offset; the place after them. The save words
-// lie without gaps, so the next one's offset is carried along.
+// The instructions on the pairs that a mask names, whose save area starts at an offset; the place after them. The save words lie
+// without gaps, so the next one's offset is carried along. For registers a function of its own is plainer: one for both would be passed
+// the bytes, the first bit and the words of each.
 pub fn put_pairs(out: &mut [u8], at: usize, op: u32, mask: u32, start: u32) -> usize
     requires op_le_op_most { (op ≤ op_most) × (start ≤ start_most) }
     requires mask_in_bounds { at + 8 * count_below mask 6 ≤ length out.old }
@@ -80,14 +84,12 @@ pub fn put_pairs(out: &mut [u8], at: usize, op: u32, mask: u32, start: u32) -> u
 {
     let mut n = at;
     let mut offset = start;
-    let mut k: u32 = 0;
-    while k < 6 {
+    for k in 0..6 {
         if is_named(mask, k) {
             put_pair(out, n, op, offset, k);
             n += 8;
             offset += 8;
         }
-        k += 1;
     }
     n
 }
@@ -102,13 +104,11 @@ pub fn put_registers(out: &mut [u8], at: usize, op: u32, mask: u32, start: u32) 
     ensures out_after { out.new ≡ sets out.old at (bytes_of_words (map (word_of op) (collect (register_at start mask) mask 32))) }
 {
     let mut n = at;
-    let mut k: u32 = 16;
-    while k < 32 {
+    for k in 16..32 {
         if is_named(mask, k) {
             words::write_word(out, n, word(op, k, start + 4 * count_below(mask, k)));
             n += 4;
         }
-        k += 1;
     }
     n
 }

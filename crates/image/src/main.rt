@@ -3,8 +3,7 @@
 // written, a line on standard error says so.
 #![tactic(auto)]
 
-ghost use Rattle.std.specs.Prelude.{length};
-ghost use Rattle.image.specs.Input.{Within};
+ghost use Rattle.std.specs.Prelude.{IfOk, length, ◌≤◌};
 
 use std::io::Read;
 use std::rt::Stdin;
@@ -14,34 +13,25 @@ const STDOUT_FILENO: i32 = 1;
 
 const STDERR_FILENO: i32 = 2;
 
-// What became of reading: so many bytes lie at the start of the buffer, or a read failed.
-#[derive(Clone, Copy)]
-enum Input {
-    Bytes(usize),
-    Failed,
-}
-
-// Reads until the buffer is full, the input ends or a read fails. (`io::read_full` does not tell the last two apart.)
-fn read_list(stdin: &mut Stdin, list: &mut [u8]) -> Input
-    ensures { Within result (length list.new) }
+// Reads until the buffer is full or the input ends; how many bytes. (`io::read_full` does not tell the end from a read that failed.)
+fn read_list(stdin: &mut Stdin, list: &mut [u8]) -> std::io::Result<usize>
+    ensures { IfOk result (λ n. n ≤ length list.new) }
 {
     let mut done = 0;
+    // The step is what each read gives, which `for` cannot say.
     while done < list.len() {
-        let Ok(more) = stdin.read(&mut list[done..]) else {
-            return Input::Failed;
-        };
+        let more = stdin.read(&mut list[done..])?;
         if more == 0 {
-            return Input::Bytes(done);
+            break;
         }
         done += more;
     }
-    Input::Bytes(done)
+    Ok(done)
 }
 
 fn main(rt: HostRuntime) {
     let mut list = [0u8; 2048];
-    let input = read_list(&mut rt.stdin(), &mut list);
-    let Input::Bytes(n) = input else {
+    let Ok(n) = read_list(&mut rt.stdin(), &mut list) else {
         io::write_all(STDERR_FILENO, b"image: the list could not be read\n");
         return;
     };

@@ -12,7 +12,6 @@ use lib.ListN.{take, drop}
 use Rattle.kinds.specs.declared.Class.TheVariants.{Unknown, Marker, Signed, Unsigned, Float, Structure}
 use Rattle.kinds.specs.declared.Kind.{Kind}
 use Rattle.kinds.specs.Kinds.{Row, row, table, look, kind_of, class_number, is}
-use Rattle.words.proofs.Impossible.{impossible}
 
 -- the test
 abbrev implies : Bool → Bool → Bool
@@ -47,7 +46,7 @@ and_right false b t = absurd t
 
 implied : (a b : Bool) → T (implies a b) → a ≡ true → T b
 implied true b t e = t
-implied false b t e = impossible (cc)
+implied false b t e = cc
 
 either : {A B : Type 0} (a b : Bool) → (T a → A) → (T b → B) → T (a || b) → A ⊎ B
 either true b f g t = inl (f tt)
@@ -94,27 +93,17 @@ one_of_all (suc n) k t h = go (eqb k n) refl (λ g. one_of_all n k (and_right (t
     go true e rest = rw (eqb-true k n e) (and_left (tests (kind_of n)) (all_below n) t)
     go false e rest = rest (omega (arith, eqb-false k n e))
 
--- ---- the table by ranges: rows that end below a kind, or begin above it, do not have it
+-- ---- the table by ranges: rows that end below a kind do not have it
 
 abbrev pub end_below : ℕ → List Row → Bool
 end_below n [] = true
 end_below n (row first last size a c ∷ rows) = ltb last n && end_below n rows
-
-abbrev pub begin_from : ℕ → List Row → Bool
-begin_from n [] = true
-begin_from n (row first last size a c ∷ rows) = leb n first && begin_from n rows
 
 pub look_past : (rows more : List Row) (n k : ℕ) → T (end_below n rows) → n ≤ k → look k (rows ++ more) ≡ look k more
 look_past [] more n k t h = refl
 look_past (row first last size a c ∷ rows) more n k t h =
     let l : last < n = ltb→lt last n (and_left (ltb last n) (end_below n rows) t) in
     rw (lt-leb k last (omega arith), and-false (leb first k)) (look_past rows more n k (and_right (ltb last n) (end_below n rows) t) h)
-
-pub look-before : (rows : List Row) (n k : ℕ) → T (begin_from n rows) → k < n → look k rows ≡ look k []
-look-before [] n k t h = refl
-look-before (row first last size a c ∷ rows) n k t h =
-    let l : n ≤ first = leb→le n first (and_left (leb n first) (begin_from n rows) t) in
-    rw (lt-leb first k (omega arith)) (look-before rows n k (and_right (leb n first) (begin_from n rows) t) h)
 
 pub kind_facts : (k : ℕ) → Facts (kind_of k)
 kind_facts k = go (ltb k 256) refl

@@ -1,4 +1,2 @@
 pub mod KindFacts
-pub mod Table
-pub mod Classes
 pub mod Structures

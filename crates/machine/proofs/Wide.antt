@@ -14,27 +14,15 @@ Words f = (k : ℕ) → f k < 2 ^ 32
 
 upd_wide : (f : ℕ → ℕ) (k v : ℕ) → Words f → v < 2 ^ 32 → Words (upd f k v)
 unfolding upd
-upd_wide f k v h x i = go (eqb i k)
-  where
-    go : (b : Bool) → cond b v (f i) < 2 ^ 32
-    go true = x
-    go false = h i
+upd_wide f k v h x i = grind (arith, h i)
 
 write_wide : (g : ℕ → ℕ) (r v : ℕ) → Words g → v < 2 ^ 32 → Words (write g r v)
 unfolding write
-write_wide g r v h x i = go (eqb r 0)
-  where
-    go : (b : Bool) → cond b g (upd g r v) i < 2 ^ 32
-    go true = h i
-    go false = upd_wide g r v h x i
+write_wide g r v h x i = grind (arith, h i, upd_wide g r v h x i)
 
 read_wide : (g : ℕ → ℕ) (r : ℕ) → Words g → read g r < 2 ^ 32
 unfolding read
-read_wide g r h = go (eqb r 0)
-  where
-    go : (b : Bool) → cond b 0 (g r) < 2 ^ 32
-    go true = omega arith
-    go false = h r
+read_wide g r h = grind (arith, h r)
 
 sum_wide : (g : ℕ → ℕ) (s i : ℕ) → sum g s i < 2 ^ 32
 unfolding sum
@@ -46,8 +34,7 @@ next_address_wide a = omega arith
 
 -- where a test lets a state through, it is that state
 state_passed : (b : Bool) (x t : State) → cond b (some x) none ≡ some t → x ≡ t
-state_passed true x t e = cc
-state_passed false x t e = cc
+state_passed b x t e = grind arith
 
 -- so it is after a jump
 jump_wide : (s : State) (o : Option ℕ) (a : ℕ) (t : State) → Wide s → a < 2 ^ 32 → jump s o a ≡ some t → Wide t

@@ -4,7 +4,8 @@
 use kinds::Kind;
 use rules::Prefix;
 
-// What placement keeps of the arguments before.
+// What placement keeps of the arguments before. The definitions make states of any numbers, so no invariant stands here: what a step
+// asks of one is `Placeable` (o32_step).
 #[derive(Clone, Copy)]
 pub struct State {
     // what the rules on lists keep
@@ -15,7 +16,8 @@ pub struct State {
     pub floating: bool,
 }
 
-// Where an argument goes: its offset, and its floating register or 0.
+// Where an argument goes: its offset, and "the floating register or 0", as document 02 has it in request (vii) and the definitions
+// `placement` and `carriers` too.
 #[derive(Clone, Copy)]
 pub struct Placement {
     pub kind: Kind,

@@ -28,37 +28,14 @@ pub record Plain (k : Kind) : Type 0 where
   pub wide : width k ≡ k.size
 
 -- by the answers of the tests for the two classes
-module _ {k : Kind} {r : Bool} (e : r ≡ is Signed k) where
-  pub signed_kind : r ≡ true → Worded k true
-  signed_kind h = let s : is Signed k ≡ true = sym e ∙ h in record { some = rw s; extended = rw s; wide = rw s }
-
-  module _ {t : Bool} (f : t ≡ is Unsigned k) where
-    pub unsigned_kind : r ≡ false → t ≡ true → Worded k false
-    unsigned_kind h g =
-        let s : is Signed k ≡ false = sym e ∙ h in
-        let u : is Unsigned k ≡ true = sym f ∙ g in
-        record { some = rw (s, u); extended = rw (s, u); wide = rw (s, u) }
-
-    pub plain_kind : r ≡ false → t ≡ false → Plain k
-    plain_kind h g =
-        let s : is Signed k ≡ false = sym e ∙ h in
-        let u : is Unsigned k ≡ false = sym f ∙ g in
-        record { extended = rw (s, u); wide = rw (s, u) }
-
 pub float_extended : (k : Kind) → is Float k ≡ true → extension k ≡ zeros 0
 float_extended k f = let e : class_number k.class ≡ 5 = eqb-true (class_number k.class) 5 f in rw e
 
 -- ---- where they fit
 
 module _ {p : Placement} {m : ℕ} (fit : Fit p m) where
-  pub word_fits : {signed : Bool} → Worded p.kind signed → (p.offset % 4 ≡ 0) × ((p.offset ≤ 1024) × (36 + p.offset ≤ m))
-  word_fits w = (fit.aligned, (omega (arith, fit.low, w.wide), omega (arith, fit.inside, w.wide)))
-
   pub body_fits : {signed : Bool} → Worded p.kind signed → (1 ≤ p.kind.size) × (p.kind.size ≤ 2)
   body_fits w = fit.promoted w.some
-
-  pub plain_fits : Plain p.kind → (48 ≤ m) × (32 + (p.offset + p.kind.size) ≤ m)
-  plain_fits w = (fit.area, omega (arith, fit.inside, w.wide))
 
 -- the registers and sizes of floats
 pub float_bounds : {f size : ℕ} → Floating f size → ((12 ≤ f) × (f ≤ 14)) × ((4 ≤ size) × (size ≤ 8))

@@ -13,7 +13,10 @@ use Rattle.words.specs.Words.{to_word, body, proper}
 use Rattle.words.proofs.Bytes.{body-whole, proper-whole}
 use Rattle.places.specs.Places.{gather, run}
 use Rattle.places.proofs.Places.{length-gather}
-use Rattle.kinds.specs.declared.Class.TheVariants.{Signed, Unsigned}
+use Rattle.kinds.specs.declared.Class.{Class}
+use Rattle.kinds.specs.declared.Class.TheVariants as V
+use Rattle.kinds.specs.declared.Class.TheVariants.{Unknown, Marker, Pointer, Signed, Unsigned, Float, Structure}
+use Rattle.kinds.specs.declared.Kind.{Kind}
 use Rattle.o32.specs.declared.Placement.{Placement}
 use Rattle.kinds.specs.Kinds.{is}
 use Rattle.o32_offsets.specs.Offsets.{extension, width}
@@ -23,6 +26,27 @@ use Rattle.o32_offsets.proofs.Offsets.{float_width}
 use Rattle.o32_laws.specs.Fitting.{Fit, Floating}
 use Rattle.o32_laws.proofs.Fitting.{float_bounds, Worded, Plain, body_fits}
 use Rattle.o32_load.proofs.Parts.{gather-word, body_part}
+
+-- ---- bytes and halfwords, and bodies that stay as they are
+
+pub signed_class : {k : Kind} → k.class ≡ Signed → Worded k true
+signed_class e = record { some = rw e; extended = rw e; wide = rw e }
+
+pub unsigned_class : {k : Kind} → k.class ≡ Unsigned → Worded k false
+unsigned_class e = record { some = rw e; extended = rw e; wide = rw e }
+
+pub other_class : (k : Kind) → (k.class ≡ Signed → ⊥) → (k.class ≡ Unsigned → ⊥) → Plain k
+other_class k f g = go k.class refl
+  where
+    go : (c : Class) → k.class ≡ c → Plain k
+    go Unknown e = record { extended = rw e; wide = rw e }
+    go Marker e = record { extended = rw e; wide = rw e }
+    go Pointer e = record { extended = rw e; wide = rw e }
+    go Signed e = absurd (f e)
+    go Unsigned e = absurd (g e)
+    go Float e = record { extended = rw e; wide = rw e }
+    go V.Plain e = record { extended = rw e; wide = rw e }
+    go Structure e = record { extended = rw e; wide = rw e }
 
 carrier-le : (o : ℕ) → carrier o ≤ 32 + o
 carrier-le o = go (ltb o 16) refl
@@ -73,19 +97,9 @@ module _ (p : Placement) (img : List ℕ) (fit : Fit p (length img)) where
   whole : width p.kind ≡ p.kind.size → body p.kind.size (gather img (carriers p)) ≡ gather img (carriers p)
   whole w = body-whole p.kind.size (gather img (carriers p)) (long ∙ w)
 
-  module _ (z : p.register ≡ 0 → ⊥) where
-    pub float_fits : Floating p.register p.kind.size
-    float_fits = (fit.floating (omega arith)).1
-
-    pub float_body : body p.kind.size (gather img (carriers p)) ≡ gather img (float_bytes p.register p.kind.size)
-    float_body = whole (float_width p.kind (fit.floating (omega arith)).0) ∙ rw (ne_eqb p.register 0 z)
-
   module _ (q v : ℕ) (at : q ≡ carrier p.offset) (e : v ≡ width p.kind) (h : p.kind.size < v) where
     wide : width p.kind ≡ 4
     wide = elim widths [ inl w ↦ w.0 | inr w ↦ absurd (omega arith) ]
-
-    pub word_end : q + (v - p.kind.size) + p.kind.size ≤ length img
-    word_end = omega (arith, wide, word_inside wide)
 
     pub word-body : p.register ≡ 0 → body p.kind.size (gather img (carriers p)) ≡ take p.kind.size (drop (q + (v - p.kind.size)) img)
     word-body z = rw (at, e, word_part z wide, wide) (body_part img 4 p.kind.size (carrier p.offset) (omega (arith, wide)) (word_inside wide))

@@ -35,39 +35,19 @@ module _ (img : List ℕ) where
       go true e = gather_low 4 o (omega (arith, ltb-true o 16 e)) (omega arith) ∙ rw e
       go false e = gather_high 4 o (ltb-false o 16 e) (omega arith) ∙ rw e
 
--- bytes of two runs, read and stored one after the other
-read-after : (img out out' out'' : List ℕ) (m n p q to : ℕ) → p + m ≤ length img → q + n ≤ length img
-    → out' ≡ put out (run to m) (take m (drop p img))
-    → out'' ≡ put out' (run (to + m) n) (take n (drop q img))
-    → out'' ≡ put out (run to (m + n)) (gather img (run p m ++ run q n))
-read-after img out out' out'' m n p q to h g d e =
-    let first = take m (drop p img) in
-    let then = take n (drop q img) in
-    let long : length first ≡ length (run to m) = length-take-le m (drop p img) (rw length-drop (omega arith)) ∙ sym (length_run m to) in
-    e ∙ ap (λ (x : List ℕ). put x (run (to + m) n) then) d
-    ∙ sym (put-append out (run to m) (run (to + m) n) first then long)
-    ∙ rw (run-add, gather_append, gather-run img m p h, gather-run img n q g)
+  -- bytes of two runs, one after the other
+  gather_two : (m n p q : ℕ) {a b : List ℕ} → p + m ≤ length img → q + n ≤ length img → a ≡ take m (drop p img) → b ≡ take n (drop q img) → a ++ b ≡ gather img (run p m ++ run q n)
+  gather_two m n p q h g d e = rw (d, e, gather_append, gather-run img m p h, gather-run img n q g) refl
 
--- n bytes from offset o on that lie in the register words and in the area
-pub stored_split : (img out out' out'' : List ℕ) (n o to : ℕ) → o ≤ 16 → 16 ≤ o + n → 32 + (o + n) ≤ length img
-    → out' ≡ put out (run to (16 - o)) (take (16 - o) (drop o img))
-    → out'' ≡ put out' (run (to + (16 - o)) (n - (16 - o))) (take (n - (16 - o)) (drop 48 img))
-    → out'' ≡ put out (run to n) (gather img (map carrier (run o n)))
-stored_split img out out' out'' n o to h g l d e =
-    let count : 16 - o + (n - (16 - o)) ≡ n = omega arith in
-    read-after img out out' out'' (16 - o) (n - (16 - o)) o 48 to (omega arith) (omega arith) d e
-    ∙ ap₂ (λ (k : ℕ) (ps : List ℕ). put out (run to k) (gather img ps)) count (sym (span_split n o h g))
+  -- n bytes from offset o on that lie in the register words and in the area
+  pub gather_split : (n o : ℕ) {a b : List ℕ} → o ≤ 16 → 16 ≤ o + n → 32 + (o + n) ≤ length img
+      → a ≡ take (16 - o) (drop o img) → b ≡ take (n - (16 - o)) (drop 48 img) → a ++ b ≡ gather img (map carrier (run o n))
+  gather_split n o h g l d e = rw (span_split n o h g) (gather_two (16 - o) (n - (16 - o)) o 48 (omega arith) (omega arith) d e)
 
--- the word of a register, and after it that of another
-module _ (img out out' : List ℕ) (f p to : ℕ) (first : out' ≡ put out (run to 4) (take 4 (drop p img))) (at : p ≡ 16 + 4 * (f - 12)) (inside : p + 4 ≤ length img) where
-  pub read_one : out' ≡ put out (run to 4) (gather img (register_bytes (f ∷ [])))
-  read_one = first ∙ ap (put out (run to 4)) (sym (gather-run img 4 p inside)) ∙ ap (λ (x : ℕ). put out (run to 4) (gather img (run x 4))) at
-
-  pub read-two : (out'' : List ℕ) (g q : ℕ) → out'' ≡ put out' (run (to + 4) 4) (take 4 (drop q img)) → q ≡ 16 + 4 * (g - 12) → q + 4 ≤ length img
-      → out'' ≡ put out (run to 8) (gather img (register_bytes (f ∷ g ∷ [])))
-  read-two out'' g q second e h =
-      read-after img out out' out'' 4 4 p q to inside h first second
-      ∙ ap₂ (λ (x y : ℕ). put out (run to 8) (gather img (run x 4 ++ run y 4))) at e
+  -- the words of two registers
+  pub gather_registers : (f g : ℕ) {p q : ℕ} {a b : List ℕ} → p ≡ 16 + 4 * (f - 12) → q ≡ 16 + 4 * (g - 12) → p + 4 ≤ length img → q + 4 ≤ length img
+      → a ≡ take 4 (drop p img) → b ≡ take 4 (drop q img) → a ++ b ≡ gather img (register_bytes (f ∷ g ∷ []))
+  gather_registers f g {p} {q} at there h l d e = gather_two 4 4 p q h l d e ∙ ap₂ (λ (x y : ℕ). gather img (run x 4 ++ run y 4)) at there
 
 -- ---- the body in bytes
 

@@ -11,7 +11,12 @@ use Rattle.device.specs.declared.Device.TheVariants.{Fpu}
 use Rattle.kinds.specs.declared.Kind.{Kind}
 use Rattle.carried.specs.Convention.{body_length, taken, scan}
 use Rattle.passes.specs.declared.Measured.{Measured}
-use Rattle.passes.specs.declared.Measured.TheVariants as M
+use Rattle.passes.specs.Found.{found}
+use Rattle.passes.specs.Found as F
+use Rattle.std.specs.Prelude.{Result}
+use Rattle.answers.specs.declared.Refusal.{Refusal}
+use Rattle.answers.specs.declared.Cause.{Cause}
+use Rattle.o32_step.specs.Recorded.{recorded}
 use Rattle.passes.specs.Passes.{measured}
 use Rattle.passes.proofs.Walking.{Walking, walk_starts, walk_ends, walk_small, walk_refused, walk_size, walk_inside, walk_turn}
 use Rattle.o32.specs.declared.State.{State}
@@ -35,16 +40,13 @@ module _ (bodies : Bool) (list : List ℕ) (st : State) (n at : ℕ) (w : Measur
   pub measure_bounds : (n ≤ 4096) × (st.end ≤ end_most) × (st.prefix.count ≤ arguments_most)
   measure_bounds = (walk_small (w Fpu), (w Fpu).held.fits, (w Fpu).held.few)
 
-  pub measure_ends : (m : ℕ) → length list ≤ at → m ≡ image_size st.end → (d : Device) → M.Accepted n m ≡ measured (O32 d) (scan (O32 d) bodies list)
-  measure_ends m h i d = walk_ends (w d) h i
-
-  module _ (h : at < length list) (t : Record) (e : (d : Device) → t ≡ record_of (taken (O32 d) bodies (length list - (at + 1)) st (get_or list at 0))) where
-    pub measure_refused : (r j : ℕ) (m : Measured) → t ≡ R.Refused r j → m ≡ refused_at at t → (d : Device) → m ≡ measured (O32 d) (scan (O32 d) bodies list)
-    measure_refused r j m g q d = q ∙ ap (refused_at at) g ∙ walk_refused (w d) h (was_refused d bodies (length list - (at + 1)) st (get_or list at 0) (e d) g)
+  module _ (h : at < length list) (t : Record) (e : (d : Device) → recorded t ≡ record_of (taken (O32 d) bodies (length list - (at + 1)) st (get_or list at 0))) where
+    pub measure_refused : (r : Cause) (j : ℕ) (m : Result Measured Refusal) → t ≡ R.Refused r j → m ≡ refused_at at t → (d : Device) → found m ≡ measured (O32 d) (scan (O32 d) bodies list)
+    measure_refused r j m g q d = ap found (q ∙ ap (refused_at at) g) ∙ walk_refused (w d) h (was_refused d bodies (length list - (at + 1)) st (get_or list at 0) (e d) (ap recorded g))
 
     module _ (j : ℕ) (kd : Kind) (st' : State) (g : t ≡ R.Taken j kd st') where
       record_taken : (d : Device) → Taken d bodies (length list - (at + 1)) st (get_or list at 0) (e d) j kd st'
-      record_taken d = was_taken d bodies (length list - (at + 1)) st (get_or list at 0) (e d) g
+      record_taken d = was_taken d bodies (length list - (at + 1)) st (get_or list at 0) (e d) (ap recorded g)
 
       size_is : (d : Device) → (record_taken d).place.kind.size ≡ kd.size
       size_is d = ap (λ (x : Kind). x.size) (record_taken d).kind

@@ -4,27 +4,29 @@
 ghost use Rattle.std.specs.Prelude.{false, true, ◌≡◌, ◌≤◌};
 ghost use Rattle.device.specs.declared.Device.{Device};
 ghost use Rattle.carried.specs.Convention.{scan};
+ghost use Rattle.passes.specs.Found.{found};
 ghost use Rattle.passes.specs.Passes.{measured};
 ghost use Rattle.o32.specs.O32.{O32, end_most, image_size};
 ghost use Rattle.o32_measure.specs.Measured.{refused_at};
 
+use answers::Refusal;
 use o32_step::Record;
 use passes::Measured;
 
 // A refused record's answer, as that of the whole.
-fn refusal(answer: Record, place: usize) -> Measured
+fn refused(answer: Record, place: usize) -> Result<Measured, Refusal>
     ensures { result ≡ refused_at place answer }
 {
     match answer {
-        Record::Refused(number, argument) => Measured::Refused {
-            number,
+        Record::Refused(cause, argument) => Err(Refusal {
+            cause,
             place,
             argument,
-        },
-        _ => Measured::Accepted {
+        }),
+        _ => Ok(Measured {
             length: 0,
             image: 0,
-        },
+        }),
     }
 }
 
@@ -34,44 +36,45 @@ fn image_length(end: usize) -> usize
     ensures { result ≡ image_size end }
 {
     if end <= 16 {
-        return 48;
+        48
+    } else {
+        32 + end.next_multiple_of(8)
     }
-    32 + (end + 7) / 8 * 8
 }
 
 // The walk over the records of a list (bodies) or of a signature.
-pub fn measure(list: &[u8], bodies: bool) -> Measured
-    ensures { (d : Device) → result ≡ measured (O32 d) (scan (O32 d) bodies list.now) }
+pub fn measure(list: &[u8], bodies: bool) -> Result<Measured, Refusal>
+    ensures { (d : Device) → found result ≡ measured (O32 d) (scan (O32 d) bodies list.now) }
 {
     let mut st = o32_step::start();
     let mut length = 0;
-    let mut at = 0;
+    let mut at = 0; // which moves by the length of each record, so no range says it
     while at < list.len() {
         let left = list.len() - (at + 1);
         let answer = o32_step::take(st, list[at], bodies, left);
         let Record::Taken { kind, next, .. } = answer else {
-            return refusal(answer, at);
+            return refused(answer, at);
         };
         length = length + 1 + kind.size;
         at = at + 1 + passes::body_length(bodies, kind.size);
         st = next;
     }
-    Measured::Accepted {
+    Ok(Measured {
         length,
         image: image_length(st.end),
-    }
+    })
 }
 
 // The records of a list: refusals 1 to 5 with place and argument, or the length of the list and of its image.
-pub fn measure_list(list: &[u8]) -> Measured
-    ensures { (d : Device) → result ≡ measured (O32 d) (scan (O32 d) true list.now) }
+pub fn measure_list(list: &[u8]) -> Result<Measured, Refusal>
+    ensures { (d : Device) → found result ≡ measured (O32 d) (scan (O32 d) true list.now) }
 {
     measure(list, true)
 }
 
 // The records of a signature: refusals 1, 2, 3 and 5 with place and argument, or the length of the list and of its image.
-pub fn measure_signature(signature: &[u8]) -> Measured
-    ensures { (d : Device) → result ≡ measured (O32 d) (scan (O32 d) false signature.now) }
+pub fn measure_signature(signature: &[u8]) -> Result<Measured, Refusal>
+    ensures { (d : Device) → found result ≡ measured (O32 d) (scan (O32 d) false signature.now) }
 {
     measure(signature, false)
 }

@@ -1,9 +1,9 @@
 -- Numbers rounded up, and the bytes of an argument after promotion.
 -- Assumes nothing.
-use mathlib.Core.Path.{◌≡◌, refl, sym, ◌∙◌}
+use mathlib.Core.Path.{◌≡◌, refl}
 use mathlib.Core.Logic.{inl, inr}
 use mathlib.Core.Bool.{Bool, true, false, cond, ◌||◌}
-use Prim.Native.Nat.{ℕ, ◌+◌, ◌-◌, ◌*◌, ◌/◌, ◌≤◌}
+use Prim.Native.Nat.{ℕ, ◌+◌, ◌-◌, ◌≤◌}
 use native.Mathlib.Omega.{arith}
 use native.Mathlib.Nat.{div-add-mod', div-mul-le_self, mod-lt, mul-zero}
 use borrow.Author.Tests.{eqb-true}
@@ -11,7 +11,6 @@ use Rattle.words.specs.Words.{up}
 use Rattle.kinds.specs.declared.Class.TheVariants.{Marker, Signed, Unsigned, Float}
 use Rattle.kinds.specs.declared.Kind.{Kind}
 use Rattle.kinds.specs.Kinds.{class_number, is}
-use Rattle.kinds.proofs.Classes.{class_is}
 use Rattle.kinds.proofs.KindFacts.{Facts}
 use Rattle.o32_offsets.specs.Offsets.{width, Alignment}
 
@@ -23,19 +22,8 @@ up-ge a n h = omega (arith, div-add-mod' (n + (a - 1)) a, mod-lt (n + (a - 1)) {
 pub up_le : (a n : ℕ) → up a n ≤ n + (a - 1)
 up_le a n = div-mul-le_self (n + (a - 1)) a
 
-pub up_eight : (a n : ℕ) → a ≡ 8 → (n + 7) / 8 * 8 ≡ up a n
-up_eight a n e = rw e
-
-pub up_four : (a n : ℕ) → a ≡ 4 → (n + 3) / 4 * 4 ≡ up a n
-up_four a n e = rw e
-
 pub none-up : (n : ℕ) → up 0 n ≡ 0
 none-up n = mul-zero _
-
-pub up_none : (a n : ℕ) → Alignment a → (a ≡ 8 → ⊥) → (a ≡ 4 → ⊥) → 0 ≡ up a n
-up_none a n (inl e) f g = rw e (sym (none-up n))
-up_none a n (inr (inl e)) f g = absurd (g e)
-up_none a n (inr (inr e)) f g = absurd (f e)
 
 pub up_small : (a n : ℕ) → Alignment a → up a n ≤ n + 7
 up_small a n (inl e) = omega (arith, up_le a n)
@@ -54,22 +42,12 @@ unpromoted_width k e = rw e
 pub float_width : (k : Kind) → is Float k ≡ true → width k ≡ k.size
 float_width k e = unpromoted_width k (rw (eqb-true (class_number k.class) 5 e))
 
-module _ (k : Kind) where
-  pub width_signed : (t : Bool) → t ≡ is Signed k → t ≡ true → 4 ≡ width k
-  width_signed t e h = rw (class_is Signed k t e h)
-
-  pub width_unsigned : (t : Bool) → t ≡ is Unsigned k → t ≡ true → 4 ≡ width k
-  width_unsigned t e h = rw (class_is Unsigned k t e h)
-
-  pub width_plain : (t u : Bool) → t ≡ is Signed k → t ≡ false → u ≡ is Unsigned k → u ≡ false → k.size ≡ width k
-  width_plain t u e h f g = rw (sym e ∙ h, sym f ∙ g)
-
-  pub width-le : k.size ≤ 512 → width k ≤ 512
-  width-le h = go (is Signed k || is Unsigned k)
-    where
-      go : (t : Bool) → cond t 4 k.size ≤ 512
-      go true = omega arith
-      go false = h
+pub width-le : (k : Kind) → k.size ≤ 512 → width k ≤ 512
+width-le k h = go (is Signed k || is Unsigned k)
+  where
+    go : (t : Bool) → cond t 4 k.size ≤ 512
+    go true = omega arith
+    go false = h
 
 -- a body is among them
 pub body_within : (k : Kind) → Facts k → k.size ≤ width k

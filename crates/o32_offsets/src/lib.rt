@@ -11,24 +11,22 @@ use kinds::{Class, Kind};
 pub fn width_of(kind: Kind) -> usize
     ensures { result ≡ width kind }
 {
-    if kinds::is_class(Class::Signed, kind) {
-        return 4;
+    match kind.class {
+        Class::Signed | Class::Unsigned => 4,
+        _ => kind.size,
     }
-    if kinds::is_class(Class::Unsigned, kind) {
-        return 4;
-    }
-    kind.size
 }
 
-// The next multiple of an alignment of 4 or 8 from n on; 0 where there is no alignment.
+// The next multiple of an alignment of 4 or 8 from n on; 0 where there is no alignment, as `up` has
+// it.
 pub fn align_up(alignment: usize, n: usize) -> usize
     requires alignment { Alignment alignment }
     requires n_bound { n ≤ 1024 }
     ensures { result ≡ up alignment n }
 {
     match alignment {
-        8 => (n + 7) / 8 * 8,
-        4 => (n + 3) / 4 * 4,
+        8 => n.next_multiple_of(8),
+        4 => n.next_multiple_of(4),
         _ => 0,
     }
 }

@@ -12,7 +12,7 @@ use Rattle.kinds.specs.declared.Kind.{Kind}
 use Rattle.kinds.specs.Kinds.{kind_of}
 use Rattle.rules.specs.Rules.{argument}
 use Rattle.answers.specs.Outcomes.{Outcome}
-use Rattle.passes.specs.declared.Checked.TheVariants as K
+use Rattle.std.specs.Prelude.{Err}
 use Rattle.passes.specs.Passes.{judged}
 use Rattle.passes.proofs.Reading.{Checking, check_stops, check_turn, Copying, copy_room, copy_turn}
 use Rattle.o32_offsets.specs.Offsets.{extension}
@@ -24,8 +24,8 @@ use Rattle.o32_laws.proofs.Premises.{O32-premises}
 module _ (d : Device) {sig img : List ℕ} {whole : ℕ → Outcome → Outcome} {st : State} {at : ℕ} (w : Checking (O32-premises d) sig img whole st at) (h : at < length sig)
     {kd : Kind} (e : kd ≡ kind_of (get_or sig at 0)) {p : Placement} (g : p ≡ placement d st kd)
     {u : Bool} (v : u ≡ proper (extension p.kind) p.kind.size (gather img (carriers p))) where
-  pub word_improper : {j : ℕ} → u ≡ false → j ≡ argument st.prefix kd → (n : ℕ) (x : Outcome) → judged n (K.Improper at j) x ≡ whole n x
-  word_improper b j n x = ap (λ (i : ℕ). judged n (K.Improper at i) x) (j ∙ rw e refl) ∙ check_stops w h (rw (g, e) at v) b n x
+  pub word_improper : {j : ℕ} → u ≡ false → j ≡ argument st.prefix kd → (n : ℕ) (x : Outcome) → judged n (Err (record { place = at; argument = j })) x ≡ whole n x
+  word_improper b j n x = ap (λ (i : ℕ). judged n (Err (record { place = at; argument = i })) x) (j ∙ rw e refl) ∙ check_stops w h (rw (g, e) at v) b n x
 
   pub word-proper : {st' : State} → u ≡ true → st' ≡ advance st kd → Checking (O32-premises d) sig img whole st' (at + 1)
   word-proper b o = rw (o, e) (check_turn w h (rw (g, e) at v) b)

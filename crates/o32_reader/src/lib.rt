@@ -9,28 +9,29 @@ ghost use Rattle.passes.specs.Passes.{Admitted, judged, placed_in, verdict};
 ghost use Rattle.o32.specs.O32.{O32};
 
 use device::Device;
-use passes::Checked;
+use kinds::Kind;
+use passes::Improper;
+
+// `Admitted` joins a device and two slices, which each function below needs one by one, so no struct holds them.
 
 // The first kind whose word in the image is no proper promotion: refusal 8, or what a caller makes of it.
-pub fn check(device: Device, signature: &[u8], image: &[u8]) -> Checked
+pub fn check(device: Device, signature: &[u8], image: &[u8]) -> Result<(), Improper>
     requires { Admitted (O32 device) false signature.now (length image.now) }
     ensures { (n : ℕ) (x : Outcome) → judged n result x ≡ checked n 0 (placed_in (scan (O32 device) false signature.now)) image.now x }
 {
     let mut st = o32_step::start();
-    let mut at = 0;
-    while at < signature.len() {
-        let kind = kinds::kind_of(signature[at]);
+    for at in 0..signature.len() {
+        let kind = Kind::from(signature[at]);
         let here = o32_step::placement_of(device, st, kind);
         if !o32_load::is_proper(image, here) {
-            return Checked::Improper {
+            return Err(Improper {
                 place: at,
-                argument: rules::argument_of(st.prefix, kind),
-            };
+                argument: st.prefix.argument_of(kind),
+            });
         }
-        at += 1;
         st = o32_step::advance(st, kind, here.offset);
     }
-    Checked::Proper
+    Ok(())
 }
 
 // The kinds and the bodies that the image carries for them, into a buffer that has room.
@@ -40,31 +41,32 @@ fn copy_list(device: Device, signature: &[u8], image: &[u8], out: &mut [u8])
     ensures { out.new ≡ over (reading (placed_in (scan (O32 device) false signature.now)) image.now) out.old }
 {
     let mut st = o32_step::start();
-    let mut at = 0;
     let mut n = 0;
-    while at < signature.len() {
-        let kind = kinds::kind_of(signature[at]);
+    for &byte in signature {
+        let kind = Kind::from(byte);
         let placement = o32_step::placement_of(device, st, kind);
-        out[n] = signature[at];
+        out[n] = byte;
         let body = n + 1;
-        o32_load::get_body(image, placement, out, body);
-        n = body + kind.size;
-        at += 1;
+        let end = body + kind.size;
+        o32_load::get_body(image, placement, &mut out[body..end]);
+        n = end;
         st = o32_step::advance(st, kind, placement.offset);
     }
 }
 
 // Refusal 8, or the list into a buffer that has room: no byte is stored before 8 is decided.
-pub fn deliver(device: Device, signature: &[u8], image: &[u8], out: &mut [u8]) -> Checked
+pub fn deliver(
+    device: Device,
+    signature: &[u8],
+    image: &[u8],
+    out: &mut [u8],
+) -> Result<(), Improper>
     requires admitted { Admitted (O32 device) false signature.now (length image.now) }
     requires image_in_bounds { length (reading (placed_in (scan (O32 device) false signature.now)) image.now) ≤ length out.old }
     ensures x_value { (x : Outcome) → verdict result x ≡ checked 8 0 (placed_in (scan (O32 device) false signature.now)) image.now x }
     ensures out_after { out.new ≡ buffer_of (checked 8 0 (placed_in (scan (O32 device) false signature.now)) image.now (done (reading (placed_in (scan (O32 device) false signature.now)) image.now))) out.old }
 {
-    let checked = check(device, signature, image);
-    let Checked::Proper = checked else {
-        return checked;
-    };
+    check(device, signature, image)?;
     copy_list(device, signature, image, out);
-    checked
+    Ok(())
 }

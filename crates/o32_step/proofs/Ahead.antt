@@ -31,17 +31,11 @@ abbrev pub O32-ahead : Device → Bool → List ℕ → ℕ → State → ℕ �
 O32-ahead d bodies list m st at = Ahead (O32-premises d) bodies list m st at
 
 module _ (d : Device) {bodies : Bool} {list : List ℕ} {m : ℕ} {st : State} {at : ℕ} (w : O32-ahead d bodies list m st at) where
-  pub ahead_few : st.prefix.count ≤ arguments_most
-  ahead_few = w.held.few
-
   module _ {kd : Kind} (e : kd ≡ kind_of (get_or list at 0)) where
     pub ahead_placeable : Placeable st kd
     ahead_placeable = placeable st (get_or list at 0) kd e w.held.fits w.held.few
 
     module _ {p : Placement} (g : p ≡ placement d st kd) where
-      pub ahead_placed : Placeable st kd × (p.offset ≡ offset kd st.end)
-      ahead_placed = (ahead_placeable, rw g refl)
-
       pub ahead_fit : (h : at < length list) (room : ℕ) → m ≤ room → Fit p room
       ahead_fit h room l = rw (g, e) (
           let k : ℕ = get_or list at 0 in

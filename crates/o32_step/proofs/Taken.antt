@@ -9,16 +9,16 @@ use Rattle.carried.specs.Convention.{Step, refuse, next, taken}
 use Rattle.o32.specs.declared.State.{State}
 use Rattle.o32.specs.declared.Placement.{Placement}
 use Rattle.o32.specs.O32.{O32}
-use Rattle.o32_step.specs.declared.Record.{Record}
-use Rattle.o32_step.specs.declared.Record.TheVariants as R
+use Rattle.o32_step.specs.Recorded.{Recorded}
+use Rattle.o32_step.specs.Recorded as R
 use Rattle.o32_step.specs.Records.{record_of}
 use Rattle.words.proofs.Impossible.{impossible}
 
-module _ (d : Device) (bodies : Bool) (left : ℕ) (st : State) (k : ℕ) {t : Record} (e : t ≡ record_of (taken (O32 d) bodies left st k)) where
-  pub was_refused : {r j : ℕ} → t ≡ R.Refused r j → taken (O32 d) bodies left st k ≡ refuse r j
+module _ (d : Device) (bodies : Bool) (left : ℕ) (st : State) (k : ℕ) {t : Recorded} (e : t ≡ record_of (taken (O32 d) bodies left st k)) where
+  pub was_refused : {r j : ℕ} → t ≡ R.refused r j → taken (O32 d) bodies left st k ≡ refuse r j
   was_refused {r} {j} g = go (taken (O32 d) bodies left st k) refl (sym e ∙ g)
     where
-      go : (s : Step Placement State) → taken (O32 d) bodies left st k ≡ s → record_of s ≡ R.Refused r j → taken (O32 d) bodies left st k ≡ refuse r j
+      go : (s : Step Placement State) → taken (O32 d) bodies left st k ≡ s → record_of s ≡ R.refused r j → taken (O32 d) bodies left st k ≡ refuse r j
       go (refuse r' j') f h =
           let x : r' ≡ r = cc in
           let y : j' ≡ j = cc in
@@ -31,10 +31,10 @@ module _ (d : Device) (bodies : Bool) (left : ℕ) (st : State) (k : ℕ) {t : R
     pub whole : taken (O32 d) bodies left st k ≡ next j place st'
     pub kind : place.kind ≡ kd
 
-  pub was_taken : {j : ℕ} {kd : Kind} {st' : State} → t ≡ R.Taken j kd st' → Taken j kd st'
+  pub was_taken : {j : ℕ} {kd : Kind} {st' : State} → t ≡ R.taken j kd st' → Taken j kd st'
   was_taken {j} {kd} {st'} g = go (taken (O32 d) bodies left st k) refl (sym e ∙ g)
     where
-      go : (s : Step Placement State) → taken (O32 d) bodies left st k ≡ s → record_of s ≡ R.Taken j kd st' → Taken j kd st'
+      go : (s : Step Placement State) → taken (O32 d) bodies left st k ≡ s → record_of s ≡ R.taken j kd st' → Taken j kd st'
       go (refuse r j') f h = impossible (cc)
       go (next j' p st'') f h =
           let x : j' ≡ j = cc in

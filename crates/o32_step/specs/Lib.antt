@@ -1,1 +1,2 @@
+pub mod Recorded
 pub mod Records

@@ -9,17 +9,20 @@ ghost use Rattle.rules.specs.Rules.{arguments_most};
 ghost use Rattle.carried.specs.Convention.{taken};
 ghost use Rattle.o32_offsets.specs.Offsets.{offset};
 ghost use Rattle.o32.specs.O32.{O32, advance, end_most, float_register, placement, register, start};
+ghost use Rattle.o32_step.specs.Recorded.{recorded};
 ghost use Rattle.o32_step.specs.Records.{Placeable, record_of};
 
+use answers::Cause;
 use device::Device;
 use kinds::{Class, Kind};
 use o32::{Placement, State};
+use rules::Prefix;
 
-// What one record answers: a refusal's number, and the number of the argument that the record is or would be, from 1, or 0 where
-// it is none; or this argument's number, the record's kind and the state after it.
+// What one record answers: a refusal's cause, and the number of the argument that the record is or would be, from 1, or 0 where it is
+// none; or this argument's number, the record's kind and the state after it. (An enum of its own, which document 01 names.)
 #[derive(Clone, Copy)]
 pub enum Record {
-    Refused(u32, usize),
+    Refused(Cause, usize),
     Taken {
         argument: usize,
         kind: Kind,
@@ -27,45 +30,40 @@ pub enum Record {
     },
 }
 
-// Rule 3: the floating register of a single or double, or 0.
+// `State` is another crate's type, which has the definitions, so what follows are functions of a state and no methods.
+
+// Rule 3: the floating register of a single or double, or 0, as the paper gives a placement.
 fn float_register(device: Device, st: State) -> usize
     ensures { result ≡ float_register device st }
 {
-    let Device::Fpu = device else {
-        return 0; // there is no floating register
-    };
-    let prefix = st.prefix;
-    if prefix.count == 0 {
-        return 12;
+    match (device, st.prefix.count) {
+        (Device::NoFpu, _) => 0, // there is no floating register
+        (Device::Fpu, 0) => 12,
+        (Device::Fpu, 1) if st.floating && !st.prefix.marked => 14,
+        _ => 0,
     }
-    if prefix.count != 1 {
-        return 0;
-    }
-    if !st.floating {
-        return 0;
-    }
-    if prefix.marked { 0 } else { 14 }
 }
 
-// The floating register of an argument, or 0: no other argument has one.
+// The floating register of an argument, or 0, likewise: no other argument has one.
 fn register_of(device: Device, st: State, kind: Kind) -> usize
     ensures { result ≡ register device st kind }
 {
-    if kinds::is_class(Class::Float, kind) {
-        return float_register(device, st);
+    if kind.is_class(Class::Float) {
+        float_register(device, st)
+    } else {
+        0
     }
-    0
 }
 
 // Whether the first argument is a float, once this argument is added.
 fn starts_floating(st: State, kind: Kind) -> bool
     ensures { result ≡ cond (eqb st.prefix.count 0) (is Float kind) st.floating }
 {
-    let prefix = st.prefix;
-    if prefix.count == 0 {
-        return kinds::is_class(Class::Float, kind);
+    if st.prefix.count == 0 {
+        kind.is_class(Class::Float)
+    } else {
+        st.floating
     }
-    st.floating
 }
 
 // The state before the first record.
@@ -73,7 +71,7 @@ pub fn start() -> State
     ensures { result ≡ start }
 {
     State {
-        prefix: rules::nothing(),
+        prefix: Prefix::nothing(),
         end: 0,
         floating: false,
     }
@@ -105,13 +103,9 @@ pub fn advance(st: State, kind: Kind, o: usize) -> State
     requires o_value { o ≡ offset kind st.end }
     ensures { result ≡ advance st kind }
 {
-    let prefix = rules::extend(st.prefix, kind);
-    if kinds::is_class(Class::Marker, kind) {
-        return State {
-            prefix,
-            end: st.end,
-            floating: st.floating,
-        };
+    let prefix = st.prefix.extend(kind);
+    if kind.is_class(Class::Marker) {
+        return State { prefix, ..st };
     }
     State {
         prefix,
@@ -124,26 +118,26 @@ pub fn advance(st: State, kind: Kind, o: usize) -> State
 // order, or its kind and the state after it, with its argument's number, on every device.
 pub fn take(st: State, byte: u8, bodies: bool, left: usize) -> Record
     requires { (st.end ≤ end_most) × (st.prefix.count ≤ arguments_most) }
-    ensures { (d : Device) → result ≡ record_of (taken (O32 d) bodies left st byte) }
+    ensures { (d : Device) → recorded result ≡ record_of (taken (O32 d) bodies left st byte) }
 {
-    let kind = kinds::kind_of(byte);
+    let kind = Kind::from(byte);
     let prefix = st.prefix;
-    let argument = rules::argument_of(prefix, kind);
-    if kinds::is_class(Class::Unknown, kind) {
-        return Record::Refused(1, argument);
+    let argument = prefix.argument_of(kind);
+    if kind.is_class(Class::Unknown) {
+        return Record::Refused(Cause::UnknownKind, argument);
     }
-    if rules::is_misplaced(prefix, kind) {
-        return Record::Refused(2, argument);
+    if prefix.is_misplaced(kind) {
+        return Record::Refused(Cause::Misplaced, argument);
     }
-    if rules::is_full(prefix, kind) {
-        return Record::Refused(3, argument);
+    if prefix.is_full(kind) {
+        return Record::Refused(Cause::TooManyArguments, argument);
     }
     if left < passes::body_length(bodies, kind.size) {
-        return Record::Refused(4, argument);
+        return Record::Refused(Cause::BodyCutOff, argument);
     }
     let next = advance(st, kind, offset_of(st, kind));
     if 1024 < next.end {
-        return Record::Refused(5, argument);
+        return Record::Refused(Cause::BeyondArea, argument);
     }
     Record::Taken {
         argument,

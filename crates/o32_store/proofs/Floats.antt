@@ -5,6 +5,7 @@ use mathlib.Core.List.{List, [], ◌∷◌}
 use Prim.Native.Nat.{ℕ, ◌+◌, ◌-◌, ◌*◌, ◌≤◌}
 use native.Mathlib.Omega.{arith}
 use lib.ListN.{length, set, take, drop, length-set}
+use Rattle.std.proofs.lemmas.List.{take_all}
 use Rattle.words.specs.Words.{bytes_of, bytes_of_words}
 use Rattle.places.specs.Places.{put, run}
 use Rattle.o32.specs.O32.{register_bytes, float_bytes}
@@ -22,18 +23,22 @@ register-stored block j f u l e h k =
     let p : 4 * j ≡ 16 + 4 * (f - 12) = omega arith in
     word-stored block j u (omega arith) ∙ ap (λ (x : ℕ). put (bytes_of_words block) (run x 4) (bytes_of 4 u)) p
 
-module _ (block src : List ℕ) (words : length block ≡ 8) (at f j u : ℕ) (is : j + 8 ≡ f) (low : 12 ≤ f) (high : f ≤ 15) (first : bytes_of 4 u ≡ take 4 (drop at src)) where
-  -- four bytes into a register
-  pub one_register : bytes_of_words (set block j u) ≡ put (bytes_of_words block) (register_bytes (f ∷ [])) (take 4 (drop at src))
-  one_register = register-stored block j f u words is low high ∙ ap (put (bytes_of_words block) (run (16 + 4 * (f - 12)) 4)) first
+module _ (block body : List ℕ) (words : length block ≡ 8) (f j u : ℕ) (is : j + 8 ≡ f) (low : 12 ≤ f) (high : f ≤ 15) (first : bytes_of 4 u ≡ take 4 body) where
+  first_register : bytes_of_words (set block j u) ≡ put (bytes_of_words block) (register_bytes (f ∷ [])) (take 4 body)
+  first_register = register-stored block j f u words is low high ∙ ap (put (bytes_of_words block) (run (16 + 4 * (f - 12)) 4)) first
 
-  -- and the next four into another
-  pub two_registers : (g k v : ℕ) → k + 8 ≡ g → 12 ≤ g → g ≤ 15 → bytes_of 4 v ≡ take 4 (drop (at + 4) src) → at + 8 ≤ length src
-      → bytes_of_words (set (set block j u) k v) ≡ put (bytes_of_words block) (register_bytes (f ∷ g ∷ [])) (take 8 (drop at src))
+  -- four bytes into a register
+  pub one_register : length body ≡ 4 → bytes_of_words (set block j u) ≡ put (bytes_of_words block) (register_bytes (f ∷ [])) body
+  one_register e = first_register ∙ ap (put (bytes_of_words block) (register_bytes (f ∷ []))) (take_all 4 body (omega arith))
+
+  -- eight into two
+  pub two_registers : (g k v : ℕ) → k + 8 ≡ g → 12 ≤ g → g ≤ 15 → bytes_of 4 v ≡ take 4 (drop 4 body) → length body ≡ 8
+      → bytes_of_words (set (set block j u) k v) ≡ put (bytes_of_words block) (register_bytes (f ∷ g ∷ [])) body
   two_registers g k v e l h second z =
       register-stored (set block j u) k g v (rw length-set words) e l h
-      ∙ ap₂ (λ (x y : List ℕ). put x (run (16 + 4 * (g - 12)) 4) y) one_register second
-      ∙ store-after (bytes_of_words block) src 4 4 (16 + 4 * (f - 12)) (16 + 4 * (g - 12)) at (omega arith)
+      ∙ ap₂ (λ (x y : List ℕ). put x (run (16 + 4 * (g - 12)) 4) y) first_register second
+      ∙ store-after (bytes_of_words block) body 4 4 (16 + 4 * (f - 12)) (16 + 4 * (g - 12)) 0 (omega arith)
+      ∙ ap (put (bytes_of_words block) (register_bytes (f ∷ g ∷ []))) (take_all 8 body (omega arith))
 
 -- and so the image
 pub float_whole : (block r out vs : List ℕ) → length block ≡ 8 → {f size : ℕ} → Floating f size → bytes_of_words r ≡ put (bytes_of_words block) (float_bytes f size) vs

@@ -1,4 +1,3 @@
-pub mod WordBytes
 pub mod Image
 pub mod Low
 pub mod Floats

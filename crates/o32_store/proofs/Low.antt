@@ -1,21 +1,17 @@
 -- A run of bytes stored into the words of `$4` to `$7`, one word after the other.
 -- Assumes nothing.
 use mathlib.Core.Path.{◌≡◌, refl, ap, ◌∙◌}
-use mathlib.Core.List.{List, [], append-nil}
-use mathlib.Core.Logic.{◌⊎◌, inl, inr}
+use mathlib.Core.List.{List}
 use mathlib.Core.Bool.{Bool, true, false, cond}
 use Prim.Native.Nat.{ℕ, ◌+◌, ◌-◌, ◌*◌, ◌%◌, ◌≤◌, ◌<◌, min}
 use native.Mathlib.Omega.{arith}
 use native.Mathlib.Nat.{min-eq_left, min-eq_right}
-use lib.ListN.{length, get_or, set, take, drop, length-drop}
-use lib.Seq.{length-take-le}
+use lib.ListN.{length, take, drop}
 use lib.Dec.{ltb}
 use borrow.Author.Tests.{lt-ltb, le-ltb, ltb-true, ltb-false}
-use Rattle.words.specs.Words.{bytes_of}
 use Rattle.places.specs.Places.{put, run}
 use Rattle.o32_store.specs.Block.{bytes_in_word}
-use Rattle.places.proofs.Runs.{from_first}
-use Rattle.places.proofs.Stores.{put_next, store_more}
+use Rattle.places.proofs.Stores.{store_more}
 
 -- ---- how many bytes are in a word
 
@@ -28,44 +24,12 @@ those_left o n p h g = rw (le-ltb p o h) (min-eq_right g)
 pub none_after : (o n p : ℕ) → o ≤ p → n ≤ p - o → bytes_in_word o n p ≡ 0
 none_after o n p h g = those_left o n p h (omega arith) ∙ omega arith
 
-pub all_four : (o n p : ℕ) → o ≤ p → 4 ≤ n - (p - o) → bytes_in_word o n p ≡ 4
-all_four o n p h g = rw (le-ltb p o h) (min-eq_left g)
-
 pub at-most_four : (o n p : ℕ) → bytes_in_word o n p ≤ 4
 at-most_four o n p = go (ltb p o)
   where
     go : (t : Bool) → cond t 0 (min 4 (n - (p - o))) ≤ 4
     go true = omega arith
     go false = omega arith
-
--- ---- the bytes of a word
-
--- the first one to three replaced by those of a source, the last of them first
-pub start_replaced : (w : ℕ) (src : List ℕ) (at n one two : ℕ) {after : List ℕ} → 1 ≤ n → n ≤ 3 → at + n ≤ length src
-    → ((2 < n) × (bytes_of 4 one ≡ set (bytes_of 4 w) 2 (get_or src (at + 2) 0))) ⊎ ((n ≤ 2) × (one ≡ w))
-    → ((1 < n) × (bytes_of 4 two ≡ set (bytes_of 4 one) 1 (get_or src (at + 1) 0))) ⊎ ((n ≤ 1) × (two ≡ one))
-    → after ≡ set (bytes_of 4 two) 0 (get_or src at 0)
-    → after ≡ put (bytes_of 4 w) (run 0 n) (take n (drop at src))
-start_replaced w src at n one two l g h (inr t) (inr s) first =
-    let e : n ≡ 1 = omega arith in
-    rw (e, from_first src at (omega arith)) (first ∙ ap (λ (x : ℕ). set (bytes_of 4 x) 0 (get_or src at 0)) (s.1 ∙ t.1))
-start_replaced w src at n one two l g h (inr t) (inl s) first =
-    let e : n ≡ 2 = omega arith in
-    rw (e, from_first src at (omega arith), from_first src (at + 1) (omega arith))
-    (first ∙ ap (λ (b : List ℕ). set b 0 (get_or src at 0)) (s.1 ∙ ap (λ (x : ℕ). set (bytes_of 4 x) 1 (get_or src (at + 1) 0)) t.1))
-start_replaced w src at n one two l g h (inl t) (inl s) first =
-    let e : n ≡ 3 = omega arith in
-    let q : at + 1 + 1 ≡ at + 2 = omega arith in
-    rw (e, from_first src at (omega arith), from_first src (at + 1) (omega arith), q, from_first src (at + 2) (omega arith))
-    (first ∙ ap (λ (b : List ℕ). set b 0 (get_or src at 0)) (s.1 ∙ ap (λ (b : List ℕ). set b 1 (get_or src (at + 1) 0)) t.1))
-start_replaced w src at n one two l g h (inl t) (inr s) first = absurd (omega arith)
-
--- all four replaced
-pub word-whole : (w : ℕ) (src : List ℕ) (p : ℕ) → p + 4 ≤ length src → put (bytes_of 4 w) (run 0 4) (take 4 (drop p src)) ≡ take 4 (drop p src)
-word-whole w src p h =
-    let vs = take 4 (drop p src) in
-    let long : length vs ≡ 4 = length-take-le 4 (drop p src) (rw length-drop (omega arith)) in
-    rw long at (put_next vs [] (bytes_of 4 w) 0 refl (omega arith)) ∙ append-nil vs
 
 -- ---- a loop over the words
 

@@ -1,4 +1,4 @@
-// The register block, an array of eight words passed and returned by value, and the stores of one argument into it and into
+// The register block, an array of eight words passed and returned by value, as document 01 names the form, and the stores of one argument into it and into
 // the area.
 #![tactic(auto)]
 
@@ -13,17 +13,18 @@ ghost use Rattle.o32_laws.specs.Fitting.{Fit, Floating};
 use kinds::Class;
 use o32::Placement;
 
-// The word that the byte (size 1) or halfword (size 2) at a place becomes.
-fn promoted_at(src: &[u8], at: usize, size: usize, signed: bool) -> u32
-    requires le_size { (1 ≤ size) × (size ≤ 2) }
-    requires size_in_bounds { at + size ≤ length src.now }
-    ensures { bytes_of 4 result ≡ promote (to_word signed size) (take size (drop at src.now)) }
+// An offset below is a multiple of 4, as that of every placement that fits (`Fit`); the functions have the offset alone.
+
+// The word that a byte or halfword becomes.
+fn promoted(body: &[u8], signed: bool) -> u32
+    requires { (1 ≤ length body.now) × (length body.now ≤ 2) }
+    ensures { bytes_of 4 result ≡ promote (to_word signed (length body.now)) body.now }
 {
-    if size == 1 {
-        return words::promote_byte(src[at], signed);
+    match body {
+        [byte] => words::promote(*byte, signed),
+        [first, second] => words::promote(u16::from_be_bytes([*first, *second]), signed),
+        _ => unreachable!(),
     }
-    let h = (src[at] as u16) * 256 + src[at + 1] as u16;
-    words::promote_halfword(h, signed)
 }
 
 // The block's words into the first 32 bytes of the image.
@@ -31,10 +32,8 @@ pub fn write_block(block: [u32; 8], out: &mut [u8])
     requires { 32 ≤ length out.old }
     ensures { out.new ≡ whole block out.old }
 {
-    let mut i = 0;
-    while i < 8 {
+    for i in 0..8 {
         words::write_word(out, i * 4, block[i]);
-        i += 1;
     }
 }
 
@@ -43,63 +42,55 @@ fn with_byte(w: u32, k: usize, b: u8) -> u32
     requires { k < 4 }
     ensures { bytes_of 4 result ≡ set (bytes_of 4 w) k b }
 {
-    let v = b as u32;
-    match k {
-        0 => v * 16777216 + w % 16777216,
-        1 => w / 16777216 * 16777216 + v * 65536 + w % 65536,
-        2 => w / 65536 * 65536 + v * 256 + w % 256,
-        _ => w / 256 * 256 + v,
-    }
+    let mut bytes = w.to_be_bytes();
+    bytes[k] = b;
+    u32::from_be_bytes(bytes)
 }
 
-// A word with its first one to three bytes replaced by those of a list. The last of them first: else the compiler shares the load
+// A word with its first one to three bytes replaced by those of a body. The last of them first: else the compiler shares the load
 // of the first byte with `low_word`, and loads whole words by the byte as well.
-fn with_start(w: u32, src: &[u8], at: usize, n: usize) -> u32
-    requires le_n { (1 ≤ n) × (n ≤ 3) }
-    requires n_in_bounds { at + n ≤ length src.now }
-    ensures { bytes_of 4 result ≡ put (bytes_of 4 w) (run 0 n) (take n (drop at src.now)) }
+fn with_start(w: u32, body: &[u8]) -> u32
+    requires { (1 ≤ length body.now) × (length body.now ≤ 3) }
+    ensures { bytes_of 4 result ≡ put (bytes_of 4 w) (run 0 (length body.now)) body.now }
 {
     let mut next = w;
-    if 2 < n {
-        next = with_byte(next, 2, src[at + 2]);
+    if 2 < body.len() {
+        next = with_byte(next, 2, body[2]);
     }
-    if 1 < n {
-        next = with_byte(next, 1, src[at + 1]);
+    if 1 < body.len() {
+        next = with_byte(next, 1, body[1]);
     }
-    with_byte(next, 0, src[at])
+    with_byte(next, 0, body[0])
 }
 
-// The block's word at byte p, so far w, once n bytes of a list are stored from byte o on; o and p are multiples of 4.
-fn low_word(w: u32, p: usize, o: usize, src: &[u8], at: usize, n: usize) -> u32
-    requires { at + n ≤ length src.now }
-    ensures { bytes_of 4 result ≡ put (bytes_of 4 w) (run 0 (bytes_in_word o n p)) (take (bytes_in_word o n p) (drop (at + (p - o)) src.now)) }
+// The block's word at byte p, so far w, once a body is stored from byte o on; o and p are multiples of 4.
+fn low_word(w: u32, p: usize, o: usize, body: &[u8]) -> u32
+    ensures { bytes_of 4 result ≡ put (bytes_of 4 w) (run 0 (bytes_in_word o (length body.now) p)) (take (bytes_in_word o (length body.now) p) (drop (p - o) body.now)) }
 {
     if p < o {
         return w;
     }
     let i = p - o;
-    if n <= i {
+    if body.len() <= i {
         return w;
     }
-    let left = n - i;
-    if left < 4 {
-        return with_start(w, src, at + i, left);
+    let rest = &body[i..];
+    if rest.len() < 4 {
+        return with_start(w, rest);
     }
-    words::word_at(src, at + i)
+    words::word_at(rest, 0)
 }
 
-// Bytes of a list into the block, from its byte o on, word by word. The loop counts the words of `$4` to `$7`, and not those from
+// A body into the block, from its byte o on, word by word. The loop counts the words of `$4` to `$7`, and not those from
 // o on: at an index that the compiler does not know it stores the word to memory and loads the block again, and has to wait.
-fn put_low(block: [u32; 8], o: usize, src: &[u8], at: usize, n: usize) -> [u32; 8]
+fn put_low(block: [u32; 8], o: usize, body: &[u8]) -> [u32; 8]
     requires o_value { o % 4 ≡ 0 }
-    requires n_bound { (o + n ≤ 16) × (at + n ≤ length src.now) }
-    ensures { bytes_of_words result ≡ put (bytes_of_words block) (run o n) (take n (drop at src.now)) }
+    requires body_bound { o + length body.now ≤ 16 }
+    ensures { bytes_of_words result ≡ put (bytes_of_words block) (run o (length body.now)) body.now }
 {
     let mut next = block;
-    let mut k = 0;
-    while k < 4 {
-        next[k] = low_word(next[k], 4 * k, o, src, at, n);
-        k += 1;
+    for k in 0..4 {
+        next[k] = low_word(next[k], 4 * k, o, body);
     }
     next
 }
@@ -133,16 +124,15 @@ fn put_word(block: [u32; 8], out: &mut [u8], o: usize, w: u32) -> [u32; 8]
 }
 
 // A float into the word of its register, or a double into those of its pair.
-fn put_float(block: [u32; 8], register: usize, src: &[u8], at: usize, size: usize) -> [u32; 8]
-    requires floating { Floating register size }
-    requires size_in_bounds { at + size ≤ length src.now }
-    ensures { bytes_of_words result ≡ put (bytes_of_words block) (float_bytes register size) (take size (drop at src.now)) }
+fn put_float(block: [u32; 8], register: usize, body: &[u8]) -> [u32; 8]
+    requires { Floating register (length body.now) }
+    ensures { bytes_of_words result ≡ put (bytes_of_words block) (float_bytes register (length body.now)) body.now }
 {
     let i = register - 8;
-    let first = words::word_at(src, at);
+    let first = words::word_at(body, 0);
     let mut next = block;
-    if size == 8 {
-        let second = words::word_at(src, at + 4);
+    if body.len() == 8 {
+        let second = words::word_at(body, 4);
         next[i + 1] = first; // the high half, in the odd register
         next[i] = second; // the low half, in the even one
         return next;
@@ -151,55 +141,37 @@ fn put_float(block: [u32; 8], register: usize, src: &[u8], at: usize, size: usiz
     next
 }
 
-// Bytes of a list at an offset: those below 16 into the block, the rest into the area.
-fn put_plain(
-    block: [u32; 8],
-    out: &mut [u8],
-    o: usize,
-    src: &[u8],
-    at: usize,
-    size: usize,
-) -> [u32; 8]
+// A body at an offset: its bytes below 16 into the block, the rest into the area.
+fn put_plain(block: [u32; 8], out: &mut [u8], o: usize, body: &[u8]) -> [u32; 8]
     requires o_value { o % 4 ≡ 0 }
-    requires in_bounds { (48 ≤ length out.old) × (32 + (o + size) ≤ length out.old) }
-    requires size_in_bounds { at + size ≤ length src.now }
-    ensures { whole result out.new ≡ put (whole block out.old) (map carrier (run o size)) (take size (drop at src.now)) }
+    requires in_bounds { (48 ≤ length out.old) × (32 + (o + length body.now) ≤ length out.old) }
+    ensures { whole result out.new ≡ put (whole block out.old) (map carrier (run o (length body.now))) body.now }
 {
+    let size = body.len();
     if 16 <= o {
-        places::copy(out, 32 + o, src, at, size);
+        places::copy(&mut out[32 + o..32 + o + size], body);
         return block;
     }
     let low = 16 - o;
     if size <= low {
-        return put_low(block, o, src, at, size);
+        return put_low(block, o, body);
     }
-    places::copy(out, 48, src, at + low, size - low);
-    put_low(block, o, src, at, low)
+    places::copy(&mut out[48..48 + (size - low)], &body[low..]);
+    put_low(block, o, &body[..low])
 }
 
-// An argument's bytes after promotion, at the image bytes that carry them.
-pub fn put_argument(
-    block: [u32; 8],
-    out: &mut [u8],
-    place: Placement,
-    src: &[u8],
-    at: usize,
-) -> [u32; 8]
+// An argument's body after promotion, at the image bytes that carry it.
+pub fn put_argument(block: [u32; 8], out: &mut [u8], place: Placement, body: &[u8]) -> [u32; 8]
     requires fit { Fit place (length out.old) }
-    requires size_in_bounds { at + place.kind.size ≤ length src.now }
-    ensures { whole result out.new ≡ put (whole block out.old) (carriers place) (promote (extension place.kind) (take place.kind.size (drop at src.now))) }
+    requires body_length { length body.now ≡ place.kind.size }
+    ensures { whole result out.new ≡ put (whole block out.old) (carriers place) (promote (extension place.kind) body.now) }
 {
-    let kind = place.kind;
-    let size = kind.size;
-    let register = place.register;
-    if register != 0 {
-        return put_float(block, register, src, at, size);
+    if place.register != 0 {
+        return put_float(block, place.register, body);
     }
-    if kinds::is_class(Class::Signed, kind) {
-        return put_word(block, out, place.offset, promoted_at(src, at, size, true));
+    match place.kind.class {
+        Class::Signed => put_word(block, out, place.offset, promoted(body, true)),
+        Class::Unsigned => put_word(block, out, place.offset, promoted(body, false)),
+        _ => put_plain(block, out, place.offset, body),
     }
-    if kinds::is_class(Class::Unsigned, kind) {
-        return put_word(block, out, place.offset, promoted_at(src, at, size, false));
-    }
-    put_plain(block, out, place.offset, src, at, size)
 }

@@ -20,15 +20,11 @@ use Rattle.o32.specs.O32.{O32, carriers, advance, placement}
 use Rattle.o32_laws.proofs.Bounds.{scan_bound}
 use Rattle.o32_laws.proofs.Premises.{O32-premises}
 
--- no accepted list is longer
-pub list_short : (d : Device) {list : List ℕ} {m : ℕ} → Admitted (O32 d) true list m → length list ≤ 1057
-list_short d {list} a = (scan_bound d true list a.placed a.last a.scanned).long
-
 module _ (d : Device) {list : List ℕ} {m : ℕ} {final : List ℕ} {st : State} {at : ℕ} {img : List ℕ} (w : Filling (O32-premises d) list m final st at img) (h : at < length list)
     {kd : Kind} (e : kd ≡ kind_of (get_or list at 0)) {p : Placement} (g : p ≡ placement d st kd) where
   pub body_inside : (at + 1 + kd.size ≤ length list) × (p.kind.size ≡ kd.size)
   body_inside = (rw e (ahead_inside w.ahead h), rw g refl)
 
-  pub argument-stored : {st' : State} {at' : ℕ} {img' : List ℕ} → st' ≡ advance st kd → at' ≡ at + 1 + kd.size → img' ≡ put img (carriers p) (promote (extension p.kind) (take p.kind.size (drop (at + 1) list)))
+  pub argument-stored : {st' : State} {at' n : ℕ} {img' : List ℕ} → st' ≡ advance st kd → at' ≡ at + 1 + kd.size → img' ≡ put img (carriers p) (promote (extension p.kind) (take n (drop (at + 1) list))) → n ≡ kd.size
       → Filling (O32-premises d) list m final st' at' img'
-  argument-stored o a i = rw (o, a, e) (fill_turn w h (rw (g, e) at i))
+  argument-stored o a i c = rw (o, a, e) (fill_turn w h (rw (c, g, e) at i))

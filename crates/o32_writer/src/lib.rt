@@ -10,18 +10,17 @@ ghost use Rattle.o32.specs.O32.{O32};
 ghost use Rattle.o32_store.specs.Block.{whole};
 
 use device::Device;
+use kinds::Kind;
 
 // Zero in the area of an image of n bytes.
 fn clear(out: &mut [u8], n: usize)
     requires { (32 ≤ n) × (n ≤ length out.old) }
     ensures { drop 32 out.new ≡ replicate (n - 32) 0 ++ drop n out.old }
 {
-    let mut i = 32;
-    while i < n {
-        out[i] = 0;
-        i += 1;
-    }
+    out[32..n].fill(0);
 }
+
+// In what follows a buffer may be longer than the image of n bytes, and keeps what is beyond.
 
 // The arguments of a list that was accepted, each at its place: in the register block that is answered, and in the area.
 fn fill(device: Device, list: &[u8], out: &mut [u8], n: usize) -> [u32; 8]
@@ -32,13 +31,16 @@ fn fill(device: Device, list: &[u8], out: &mut [u8], n: usize) -> [u32; 8]
     let mut block = [0u32; 8];
     let mut st = o32_step::start();
     let mut at = 0;
+    // A turn goes on by the length of a record, which `for` cannot say.
     while at < list.len() {
-        let kind = kinds::kind_of(list[at]);
+        let kind = Kind::from(list[at]);
         let placement = o32_step::placement_of(device, st, kind);
         let body = at + 1;
-        let changed = o32_store::put_argument(block, out, placement, list, body);
+        let end = body + kind.size;
+        // The prover has no rule for a call whose result is assigned to the array that it was given.
+        let changed = o32_store::put_argument(block, out, placement, &list[body..end]);
         block = changed;
-        at = body + kind.size;
+        at = end;
         st = o32_step::advance(st, kind, placement.offset);
     }
     block

@@ -1,44 +1,56 @@
 -- What a writer and a reader answer and leave in the lent buffer: each refusal, and the result.
 -- Assumes nothing.
-use mathlib.Core.Path.{◌≡◌, refl, sym, ap, ◌∙◌}
-use mathlib.Core.List.{List, [], ◌++◌}
+use mathlib.Core.Path.{◌≡◌, refl, sym, ap, ◌∙◌, subst}
+use mathlib.Core.List.{List, ◌++◌}
 use mathlib.Core.Bool.{Bool, true, false}
 use Prim.Native.Nat.{ℕ, ◌≤◌, ◌<◌}
 use native.Mathlib.Omega.{arith}
 use lib.ListN.{length, drop}
 use lib.Dec.{eqb, ltb}
 use borrow.Author.Tests.{eq-eqb, ne_eqb, lt-ltb, le-ltb}
-use Rattle.answers.specs.declared.Answer.{Answer}
-use Rattle.answers.specs.Outcomes.{Outcome, done, refused, check_room, answer_of, buffer_of}
+use Rattle.answers.specs.Numbers.{number}
+use Rattle.answers.specs.Outcomes.{Outcome, done, refused, check_room, answer_of, buffer_of, in_numbers}
 use Rattle.carried.specs.Image.{Placed, image, reading, length_of_list, checked}
 use Rattle.carried.specs.Convention.{Convention, Scan, stopped, complete, scan, check_image, write_into, read_into}
 use Rattle.carried.proofs.Readings.{image-length, reading_length}
 use Rattle.carried.proofs.Walks.{walk_of, walk_sized}
+use Rattle.std.specs.Prelude.{Result, Ok, Err}
+use Rattle.std.specs.Result.{IsErrAnd}
+use Rattle.std.proofs.lemmas.Result.{err_from_is_err_and}
+use Rattle.answers.specs.declared.Refusal.{Refusal}
+use Rattle.answers.specs.declared.Cause.TheVariants as C
 use Rattle.passes.specs.declared.Measured.{Measured}
-use Rattle.passes.specs.declared.Measured.TheVariants as M
-use Rattle.passes.specs.declared.Checked.{Checked}
-use Rattle.passes.specs.declared.Checked.TheVariants as K
-use Rattle.passes.specs.Passes.{measured, outcome, verdict, placed_in, Admitted}
+use Rattle.passes.specs.declared.Improper.{Improper}
+use Rattle.passes.specs.Found.{Found, found}
+use Rattle.passes.specs.Found as F
+use Rattle.passes.specs.Passes.{measured, verdict, placed_in, Admitted}
 use Rattle.passes.proofs.Premises.{Premises}
 use Rattle.words.proofs.Impossible.{impossible}
 
 -- this answer and this buffer are those of this outcome
-pub record Right (x : Outcome) (out : List ℕ) (a : Answer) (o : List ℕ) : Type 0 where
-  pub answer : a ≡ answer_of x
+pub record Right (x : Outcome) (out : List ℕ) (a : Result ℕ Refusal) (o : List ℕ) : Type 0 where
+  pub answer : in_numbers a ≡ answer_of x
   pub buffer : o ≡ buffer_of x out
+
+-- so is an answer that a `?` makes of this refusal
+pub passed_on : {x : Outcome} {out o : List ℕ} (r : Result ℕ Refusal) {e : Refusal} → IsErrAnd r (λ y. y ≡ e) → Right x out (Err e) o → Right x out r o
+passed_on {x} {out} {o} r i w =
+    let t = err_from_is_err_and r i in
+    subst (λ (a : Result ℕ Refusal). Right x out a o) (sym (t.1 ∙ ap Err t.2)) w
 
 -- ---- the first pass
 
 module _ (c : Convention) (bodies : Bool) (l : List ℕ) where
   -- it was refused, and so is the whole
-  pub was_refused : {m : Measured} {r p j : ℕ} → m ≡ measured c (scan c bodies l) → m ≡ M.Refused r p j → scan c bodies l ≡ stopped r p j
-  was_refused {m} {r} {p} {j} e g = go (scan c bodies l) refl (sym g ∙ e)
+  pub was_refused : {m : Result Measured Refusal} {e : Refusal} → found m ≡ measured c (scan c bodies l) → m ≡ Err e
+      → scan c bodies l ≡ stopped (number e.cause) e.place e.argument
+  was_refused {m} {e} i g = go (scan c bodies l) refl (ap found (sym g) ∙ i)
     where
-      go : (q : Scan c.State) → scan c bodies l ≡ q → M.Refused r p j ≡ measured c q → scan c bodies l ≡ stopped r p j
-      go (stopped r' p' j') f h =
-          let x : r' ≡ r = cc in
-          let y : p' ≡ p = cc in
-          let z : j' ≡ j = cc in
+      go : (q : Scan c.State) → scan c bodies l ≡ q → F.refused (number e.cause) e.place e.argument ≡ measured c q → scan c bodies l ≡ stopped (number e.cause) e.place e.argument
+      go (stopped r p j) f h =
+          let x : r ≡ number e.cause = cc in
+          let y : p ≡ e.place = cc in
+          let z : j ≡ e.argument = cc in
           f ∙ rw (x, y, z) refl
       go (complete L st) f h = impossible (cc)
 
@@ -47,22 +59,22 @@ module _ (c : Convention) (bodies : Bool) (l : List ℕ) where
     pub admitted : Admitted c bodies l m
     pub long : n ≡ length_of_list admitted.placed
 
-  pub was_accepted : {q : Measured} {n m : ℕ} → q ≡ measured c (scan c bodies l) → q ≡ M.Accepted n m → Lengths n m
-  was_accepted {q} {n} {m} e g = go (scan c bodies l) refl (sym g ∙ e)
+  pub was_accepted : {q : Result Measured Refusal} {v : Measured} → found q ≡ measured c (scan c bodies l) → q ≡ Ok v → Lengths v.length v.image
+  was_accepted {q} {v} e g = go (scan c bodies l) refl (ap found (sym g) ∙ e)
     where
-      go : (q : Scan c.State) → scan c bodies l ≡ q → M.Accepted n m ≡ measured c q → Lengths n m
+      go : (q : Scan c.State) → scan c bodies l ≡ q → F.accepted v.length v.image ≡ measured c q → Lengths v.length v.image
       go (stopped r at j) f h = impossible (cc)
       go (complete L st) f h = record { admitted = record { placed = L; last = st; scanned = f; whole = cc }; long = cc }
 
-pub refused_right : {x : Outcome} (out : List ℕ) {m : Measured} {r p j : ℕ} {a : Answer} → x ≡ refused r p j → m ≡ M.Refused r p j → a ≡ answer_of (outcome m (done [])) → Right x out a out
-refused_right out e g i = record { answer = i ∙ rw (g, e) refl; buffer = rw e }
+pub refused_right : {x : Outcome} (out : List ℕ) {e : Refusal} → x ≡ refused (number e.cause) e.place e.argument → Right x out (Err e) out
+refused_right out e = record { answer = rw e; buffer = rw e }
 
 -- ---- the writer
 
 module _ (c : Convention) (list out : List ℕ) where
-  pub write-refused : {m : Measured} {r p j : ℕ} {a : Answer} → m ≡ measured c (scan c true list) → m ≡ M.Refused r p j → a ≡ answer_of (outcome m (done []))
-      → Right (write_into c list (length out)) out a out
-  write-refused e g i = refused_right out (rw (was_refused c true list e g)) g i
+  pub write-refused : {m : Result Measured Refusal} {e : Refusal} → found m ≡ measured c (scan c true list) → m ≡ Err e
+      → Right (write_into c list (length out)) out (Err e) out
+  write-refused i g = refused_right out (rw (was_refused c true list i g))
 
   module _ {n m : ℕ} (found : Lengths c true list n m) where
     abbrev L : List Placed
@@ -71,13 +83,13 @@ module _ (c : Convention) (list out : List ℕ) where
     long : length (image m L list) ≡ m
     long = image-length m L list
 
-    pub write_short : length out < m → Right (write_into c list (length out)) out (record { refusal = 7; place = 0; argument = 0; length = 0 }) out
+    pub write_short : length out < m → Right (write_into c list (length out)) out (Err (record { cause = C.BufferTooShort; place = 0; argument = 0 })) out
     write_short h =
         let f = found.admitted in
         record { answer = rw (f.scanned, ← f.whole, long, lt-ltb (length out) m h); buffer = rw (f.scanned, ← f.whole, long, lt-ltb (length out) m h) }
 
     pub write_done : {o : List ℕ} → m ≤ length out → o ≡ image m (placed_in (scan c true list)) list ++ drop m out
-        → Right (write_into c list (length out)) out (record { refusal = 0; place = 0; argument = 0; length = m }) o
+        → Right (write_into c list (length out)) out (Ok m) o
     write_done h e =
         let f = found.admitted in
         record {
@@ -97,7 +109,7 @@ module _ {c : Convention} {sig img out x : List ℕ} {n m : ℕ} {into : Outcome
   abbrev whole : ℕ
   whole = c.image_length w.admitted.last
 
-  pub image-wrong : (length img ≡ m → ⊥) → Right into out (record { refusal = 6; place = 0; argument = 0; length = 0 }) out
+  pub image-wrong : (length img ≡ m → ⊥) → Right into out (Err (record { cause = C.ImageLength; place = 0; argument = 0 })) out
   image-wrong h =
       let k : eqb (length img) whole ≡ false = ne_eqb (length img) whole (λ e. h (e ∙ sym w.admitted.whole)) in
       record { answer = rw (w.is, k); buffer = rw (w.is, k) }
@@ -109,7 +121,7 @@ module _ {c : Convention} {sig img out x : List ℕ} {n m : ℕ} {into : Outcome
     pub image_admitted : Admitted c false sig (length img)
     image_admitted = rw same w.admitted
 
-    pub image_short : length out < n → Right into out (record { refusal = 7; place = 0; argument = 0; length = 0 }) out
+    pub image_short : length out < n → Right into out (Err (record { cause = C.BufferTooShort; place = 0; argument = 0 })) out
     image_short h =
         let k : ltb (length out) (length x) ≡ true = lt-ltb (length out) (length x) (omega (arith, w.long same)) in
         record { answer = rw (w.is, right_length, k); buffer = rw (w.is, right_length, k) }
@@ -119,7 +131,7 @@ module _ {c : Convention} {sig img out x : List ℕ} {n m : ℕ} {into : Outcome
       image-room = omega (arith, w.long same)
 
       -- q is what the last pass found, o what it left in the buffer
-      module _ (q : Checked) {o : List ℕ} (i : (y : Outcome) → verdict q y ≡ checked 8 0 (placed_in (scan c false sig)) img y)
+      module _ (q : Result (Unit {0}) Improper) {o : List ℕ} (i : (y : Outcome) → verdict q y ≡ checked 8 0 (placed_in (scan c false sig)) img y)
           (b : o ≡ buffer_of (checked 8 0 (placed_in (scan c false sig)) img (done x)) out) where
         reached : checked 8 0 (placed_in (scan c false sig)) img (done x) ≡ into
         reached =
@@ -132,12 +144,12 @@ module _ {c : Convention} {sig img out x : List ℕ} {n m : ℕ} {into : Outcome
         kept : o ≡ buffer_of into out
         kept = b ∙ ap (λ (y : Outcome). buffer_of y out) reached
 
-        pub image_improper : {p j : ℕ} {a : Answer} → q ≡ K.Improper p j → a ≡ answer_of (verdict q (done [])) → Right into out a o
-        image_improper e k =
-            let z : verdict q (done []) ≡ verdict q (done x) = rw e in
-            record { answer = k ∙ ap answer_of (z ∙ answered); buffer = kept }
+        pub image_improper : {i : Improper} → q ≡ Err i → Right into out (Err (record { cause = C.Unpromoted; place = i.place; argument = i.argument })) o
+        image_improper {i} e =
+            let z : refused 8 i.place i.argument ≡ verdict q (done x) = rw e in
+            record { answer = ap answer_of (z ∙ answered); buffer = kept }
 
-        pub image_done : q ≡ K.Proper → Right into out (record { refusal = 0; place = 0; argument = 0; length = n }) o
+        pub image_done : q ≡ Ok tt → Right into out (Ok n) o
         image_done e =
             let z : into ≡ done x = sym answered ∙ rw e in
             record { answer = rw (z, w.long same) refl; buffer = kept }
@@ -145,9 +157,9 @@ module _ {c : Convention} {sig img out x : List ℕ} {n m : ℕ} {into : Outcome
 -- ---- the reader
 
 module _ {c : Convention} (given : Premises c) (sig img out : List ℕ) where
-  pub read-refused : {m : Measured} {r p j : ℕ} {a : Answer} → m ≡ measured c (scan c false sig) → m ≡ M.Refused r p j → a ≡ answer_of (outcome m (done []))
-      → Right (read_into c sig img (length out)) out a out
-  read-refused e g i = refused_right out (rw (was_refused c false sig e g)) g i
+  pub read-refused : {m : Result Measured Refusal} {e : Refusal} → found m ≡ measured c (scan c false sig) → m ≡ Err e
+      → Right (read_into c sig img (length out)) out (Err e) out
+  read-refused i g = refused_right out (rw (was_refused c false sig i g))
 
   pub read_delivers : {n m : ℕ} → Lengths c false sig n m → Delivers c sig img out (reading (placed_in (scan c false sig)) img) n m (read_into c sig img (length out))
   read_delivers found =

@@ -29,11 +29,6 @@ pub fill_starts : {c : Convention} (given : Premises c) {list : List ℕ} {m : �
 fill_starts given img e a = rw (e, a.scanned) (record { ahead = ahead_starts given a; rest = refl })
 
 module _ {c : Convention} {given : Premises c} {list : List ℕ} {m : ℕ} {final : List ℕ} {st : c.State} {at : ℕ} {img : List ℕ} (w : Filling given list m final st at img) where
-  pub fill_ends : length list ≤ at → img ≡ final
-  fill_ends h =
-      let e : w.ahead.rest.placed ≡ [] = ahead_ends w.ahead h in
-      rw e at w.rest
-
   pub fill_turn : (h : at < length list) {img' : List ℕ}
       → img' ≡ put img (record_here w.ahead h).carriers (promote (record_here w.ahead h).extension (take (record_here w.ahead h).size (drop (at + 1) list)))
       → Filling given list m final (state_next w.ahead h) (at + 1 + (record_here w.ahead h).size) img'

@@ -15,8 +15,8 @@ use Rattle.answers.specs.Outcomes.{Outcome, done, refused, over, buffer_of}
 use Rattle.carried.specs.Image.{Placed, reading, checked}
 use Rattle.carried.specs.Convention.{Convention, scan}
 use Rattle.carried.proofs.Readings.{length-body, fits_carriers}
-use Rattle.passes.specs.declared.Checked.{Checked}
-use Rattle.passes.specs.declared.Checked.TheVariants as K
+use Rattle.std.specs.Prelude.{Result, Ok, Err}
+use Rattle.passes.specs.declared.Improper.{Improper}
 use Rattle.passes.specs.Passes.{placed_in, Admitted, judged, verdict}
 use Rattle.passes.proofs.Premises.{Premises}
 use Rattle.passes.proofs.Ahead.{Ahead, ahead_starts, ahead_ends, record_here, state_next, ahead_sized, ahead_kind, Next, ahead_next}
@@ -33,11 +33,6 @@ pub check_starts : {c : Convention} (given : Premises c) {sig img : List ℕ} {s
 check_starts given e a = rw (e, a.scanned) (record { ahead = ahead_starts given a; same = λ n x. refl })
 
 module _ {c : Convention} {given : Premises c} {sig img : List ℕ} {whole : ℕ → Outcome → Outcome} {st : c.State} {at : ℕ} (w : Checking given sig img whole st at) where
-  pub check_ends : length sig ≤ at → (n : ℕ) (x : Outcome) → judged n K.Proper x ≡ whole n x
-  check_ends h n x =
-      let e : w.ahead.rest.placed ≡ [] = ahead_ends w.ahead h in
-      sym (rw e at (w.same n x))
-
   module _ (h : at < length sig) {u : Bool}
       (v : u ≡ proper (record_here w.ahead h).extension (record_here w.ahead h).size (gather img (record_here w.ahead h).carriers)) where
     -- what is answered from here on, by this record's test
@@ -49,7 +44,7 @@ module _ {c : Convention} {given : Premises c} {sig img : List ℕ} {whole : ℕ
         ∙ (rw (v, add-one at))
         ∙ ap (λ (y : Bool). cond y (checked n (at + 1) L img x) (refused n at (record_here w.ahead h).argument)) b
 
-    pub check_stops : u ≡ false → (n : ℕ) (x : Outcome) → judged n (K.Improper at (record_here w.ahead h).argument) x ≡ whole n x
+    pub check_stops : u ≡ false → (n : ℕ) (x : Outcome) → judged n (Err (record { place = at; argument = (record_here w.ahead h).argument })) x ≡ whole n x
     check_stops b n x =
         let z : Next w.ahead h (at + 1) = ahead_next w.ahead h (omega arith) in
         sym (by_test false b z.rest.rest.placed z.split n x)
@@ -133,9 +128,9 @@ module _ {c : Convention} {given : Premises c} {sig img out₀ final : List ℕ}
 
 -- ---- both: q is what the check found, and so what is answered in place of a list
 
-module _ (q : Checked) (answer : ℕ → Outcome → Outcome) (e : (n : ℕ) (x : Outcome) → judged n q x ≡ answer n x) (list out : List ℕ) where
-  pub improper_keeps : {p j : ℕ} → q ≡ K.Improper p j → ((x : Outcome) → verdict q x ≡ answer 8 x) × (out ≡ buffer_of (answer 8 (done list)) out)
-  improper_keeps f = (e 8, ap (λ (x : Outcome). buffer_of x out) (ap (λ (x : Checked). verdict x (done list)) (sym f) ∙ e 8 (done list)))
+module _ (q : Result (Unit {0}) Improper) (answer : ℕ → Outcome → Outcome) (e : (n : ℕ) (x : Outcome) → judged n q x ≡ answer n x) (list out : List ℕ) where
+  pub improper_keeps : {i : Improper} → q ≡ Err i → ((x : Outcome) → verdict q x ≡ answer 8 x) × (out ≡ buffer_of (answer 8 (done list)) out)
+  improper_keeps f = (e 8, ap (λ (x : Outcome). buffer_of x out) (ap (λ (x : Result (Unit {0}) Improper). verdict x (done list)) (sym f) ∙ e 8 (done list)))
 
-  pub proper_delivers : {o : List ℕ} → q ≡ K.Proper → o ≡ over list out → ((x : Outcome) → verdict q x ≡ answer 8 x) × (o ≡ buffer_of (answer 8 (done list)) out)
-  proper_delivers f g = (e 8, g ∙ ap (λ (x : Outcome). buffer_of x out) (ap (λ (x : Checked). verdict x (done list)) (sym f) ∙ e 8 (done list)))
+  pub proper_delivers : {o : List ℕ} → q ≡ Ok tt → o ≡ over list out → ((x : Outcome) → verdict q x ≡ answer 8 x) × (o ≡ buffer_of (answer 8 (done list)) out)
+  proper_delivers f g = (e 8, g ∙ ap (λ (x : Outcome). buffer_of x out) (ap (λ (x : Result (Unit {0}) Improper). verdict x (done list)) (sym f) ∙ e 8 (done list)))

@@ -9,23 +9,23 @@ use lib.ListN.{length, get_or}
 use Rattle.carried.specs.Image.{Placed}
 use Rattle.carried.specs.Convention.{refuse, next, Convention, Scan, stopped, complete, prepend, body_length, taken, scan}
 use Rattle.carried.proofs.Records.{scan_at, records_end, record_stops, taken_inside, record_goes_on}
-use Rattle.passes.specs.declared.Measured.{Measured}
-use Rattle.passes.specs.declared.Measured.TheVariants as M
+use Rattle.passes.specs.Found.{Found}
+use Rattle.passes.specs.Found as F
 use Rattle.passes.specs.Passes.{measured}
 use Rattle.passes.proofs.Premises.{Premises, taken_stepped}
 
 -- what is measured, where records of n bytes stand before
-abbrev further : ℕ → Measured → Measured
-further n (M.Refused r p j) = M.Refused r p j
-further n (M.Accepted m i) = M.Accepted (n + m) i
+abbrev further : ℕ → Found → Found
+further n (F.refused r p j) = F.refused r p j
+further n (F.accepted m i) = F.accepted (n + m) i
 
-further-none : (q : Measured) → further 0 q ≡ q
-further-none (M.Refused r p j) = refl
-further-none (M.Accepted m i) = ap (λ (x : ℕ). M.Accepted x i) (omega arith)
+further-none : (q : Found) → further 0 q ≡ q
+further-none (F.refused r p j) = refl
+further-none (F.accepted m i) = ap (λ (x : ℕ). F.accepted x i) (omega arith)
 
 further-prepend : (c : Convention) (n : ℕ) (s : Placed) (q : Scan c.State) → further n (measured c (prepend s q)) ≡ further (n + 1 + s.size) (measured c q)
 further-prepend c n s (stopped r at j) = refl
-further-prepend c n s (complete L st) = ap (λ (x : ℕ). M.Accepted x (c.image_length st)) (omega arith)
+further-prepend c n s (complete L st) = ap (λ (x : ℕ). F.accepted x (c.image_length st)) (omega arith)
 
 -- at this place and state, after records of n bytes, the pass has found what the whole has
 pub record Walking {c : Convention} (given : Premises c) (bodies : Bool) (list : List ℕ) (st : c.State) (n at : ℕ) : Type 0 where
@@ -37,16 +37,16 @@ pub walk_starts : {c : Convention} (given : Premises c) (bodies : Bool) (list : 
 walk_starts {c} given bodies list e = record { inside = omega arith; ahead = rw e (sym (further-none (measured c (scan c bodies list)))); held = rw e given.held_first }
 
 module _ {c : Convention} {given : Premises c} {bodies : Bool} {list : List ℕ} {st : c.State} {n at : ℕ} (w : Walking given bodies list st n at) where
-  pub walk_ends : length list ≤ at → {m : ℕ} → m ≡ c.image_length st → M.Accepted n m ≡ measured c (scan c bodies list)
+  pub walk_ends : length list ≤ at → {m : ℕ} → m ≡ c.image_length st → F.accepted n m ≡ measured c (scan c bodies list)
   walk_ends h i =
-      ap (M.Accepted n) i
-      ∙ sym (w.ahead ∙ ap (λ (q : Scan c.State). further n (measured c q)) (records_end c bodies list at st w.inside h) ∙ ap (λ (x : ℕ). M.Accepted x (c.image_length st)) (omega arith))
+      ap (F.accepted n) i
+      ∙ sym (w.ahead ∙ ap (λ (q : Scan c.State). further n (measured c q)) (records_end c bodies list at st w.inside h) ∙ ap (λ (x : ℕ). F.accepted x (c.image_length st)) (omega arith))
 
   pub walk_small : n ≤ 4096
   walk_small = given.held_small n st w.held
 
   module _ (h : at < length list) where
-    pub walk_refused : {r j : ℕ} → taken c bodies (length list - (at + 1)) st (get_or list at 0) ≡ refuse r j → M.Refused r at j ≡ measured c (scan c bodies list)
+    pub walk_refused : {r j : ℕ} → taken c bodies (length list - (at + 1)) st (get_or list at 0) ≡ refuse r j → F.refused r at j ≡ measured c (scan c bodies list)
     walk_refused {r} {j} e = sym (w.ahead ∙ ap (λ (q : Scan c.State). further n (measured c q)) (record_stops c bodies list at st h r j e))
 
     module _ {j : ℕ} {p : c.Placement} {st' : c.State} (e : taken c bodies (length list - (at + 1)) st (get_or list at 0) ≡ next j p st') where

@@ -1,31 +1,25 @@
 -- What the passes of a writer and a reader find, in any convention.
-use Rattle.std.specs.Prelude.{◌≡◌, List, [], Bool, ℕ}
+use Rattle.std.specs.Prelude.{◌≡◌, List, [], Bool, ℕ, Result, Ok, Err}
 use Rattle.answers.specs.Outcomes.{Outcome, refused}
 use Rattle.carried.specs.Image.{Placed, length_of_list}
 use Rattle.carried.specs.Convention.{Convention, Scan, stopped, complete, scan_from}
-use Rattle.passes.specs.declared.Measured.{Measured}
-use Rattle.passes.specs.declared.Measured.TheVariants as M
-use Rattle.passes.specs.declared.Checked.{Checked}
-use Rattle.passes.specs.declared.Checked.TheVariants as K
+use Rattle.passes.specs.declared.Improper.{Improper}
+use Rattle.passes.specs.Found.{Found}
+use Rattle.passes.specs.Found as F
 
 -- The first pass: the refusal, its place and its argument, or the length of the list and of its image.
-abbrev pub measured : (c : Convention) → Scan c.State → Measured
-measured c (stopped r at n) = M.Refused r at n
-measured c (complete L st) = M.Accepted (length_of_list L) (c.image_length st)
-
--- What is answered where this was measured: the refusal, or else this outcome.
-abbrev pub outcome : Measured → Outcome → Outcome
-outcome (M.Refused r at n) x = refused r at n
-outcome (M.Accepted length image) x = x
+abbrev pub measured : (c : Convention) → Scan c.State → Found
+measured c (stopped r at n) = F.refused r at n
+measured c (complete L st) = F.accepted (length_of_list L) (c.image_length st)
 
 -- What is answered where this was found, by a refusal of this number: that refusal, with its place and its argument's number, or else
 -- this outcome.
-abbrev pub judged : ℕ → Checked → Outcome → Outcome
-judged number K.Proper x = x
-judged number (K.Improper at n) x = refused number at n
+abbrev pub judged : ℕ → Result (Unit {0}) Improper → Outcome → Outcome
+judged number (Ok y) x = x
+judged number (Err i) x = refused number i.place i.argument
 
 -- "8: a word of kind 01 to 04 is no proper promotion (reader)".
-abbrev pub verdict : Checked → Outcome → Outcome
+abbrev pub verdict : Result (Unit {0}) Improper → Outcome → Outcome
 verdict = judged 8
 
 -- The records of a scan that is complete.

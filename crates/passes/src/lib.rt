@@ -1,62 +1,43 @@
-// The passes of a writer and a reader of any convention: what they find, and the answers made of it.
+// The passes of a writer and a reader of any convention: what they find.
 #![tactic(auto)]
 
-ghost use Rattle.std.specs.Prelude.{[], ◌≡◌};
-ghost use Rattle.answers.specs.Outcomes.{answer_of, done};
+ghost use Rattle.std.specs.Prelude.{◌≡◌};
+ghost use Rattle.answers.specs.declared.Cause.TheVariants.{Unpromoted};
 ghost use Rattle.carried.specs.Convention.{body_length};
-ghost use Rattle.passes.specs.Passes.{judged, outcome};
 
-use answers::Answer;
+use answers::{Cause, Refusal};
 
-// What a list or a signature answers: the first refusal, its place and its argument's number, or the length of the list and of its
-// image.
+// What an accepted list or signature measures: the length of the list and of its image.
 #[derive(Clone, Copy)]
-pub enum Measured {
-    Refused {
-        number: u32,
-        place: usize,
-        argument: usize,
-    },
-    Accepted {
-        length: usize,
-        image: usize,
-    },
+pub struct Measured {
+    pub length: usize,
+    pub image: usize,
 }
 
-// Whether all words are proper promotions, or the place of the first kind whose word is not, and its argument's number.
+// A kind whose word is no proper promotion: its place, and its argument's number.
 #[derive(Clone, Copy)]
-pub enum Checked {
-    Proper,
-    Improper { place: usize, argument: usize },
+pub struct Improper {
+    pub place: usize,
+    pub argument: usize,
 }
 
-// How many bytes follow a kind byte: in a list the body, in a signature none.
+// Refusal 8.
+impl From<Improper> for Refusal {
+    ghost from_gives = { λ i e. e ≡ record { cause = Unpromoted; place = i.place; argument = i.argument } };
+
+    fn from(improper: Improper) -> Refusal {
+        Refusal {
+            cause: Cause::Unpromoted,
+            place: improper.place,
+            argument: improper.argument,
+        }
+    }
+}
+
+// How many bytes follow a kind byte: in a list the body, in a signature none. (A flag, as the definition `scan` has it: it decides on a
+// length, and not on a step.)
 pub fn body_length(bodies: bool, size: usize) -> usize
     ensures { result ≡ body_length bodies size }
 {
     if bodies { size } else { 0 }
-}
-
-// The answer of a list or signature that is refused, and 0 in every part where it is accepted.
-pub fn refused(found: Measured) -> Answer
-    ensures { result ≡ answer_of (outcome found (done [])) }
-{
-    match found {
-        Measured::Refused {
-            number,
-            place,
-            argument,
-        } => answers::reply(number, place, argument, 0),
-        _ => answers::reply(0, 0, 0, 0),
-    }
-}
-
-// The answer, with this refusal's number, where a word is no proper promotion, and 0 in every part where all are.
-pub fn improper(number: u32, found: Checked) -> Answer
-    ensures { result ≡ answer_of (judged number found (done [])) }
-{
-    match found {
-        Checked::Improper { place, argument } => answers::reply(number, place, argument, 0),
-        _ => answers::reply(0, 0, 0, 0),
-    }
 }

@@ -6,10 +6,11 @@ use mathlib.Core.List.{List, [], ◌∷◌, ◌++◌, append-nil}
 use Prim.Native.Nat.{ℕ, zero, suc, ◌+◌, ◌≤◌, ◌<◌}
 use native.Mathlib.Omega.{arith}
 use native.Mathlib.Numerals.{add-one}
-use native.Mathlib.Nat.{zero-add, suc-add, add-zero, add-suc}
+use native.Mathlib.Nat.{zero-add, suc-add, add-suc}
 use lib.ListN.{length, get_or, set, take, drop, length-append, length-drop}
 use lib.Seq.{sets, length-take-le, take-suc, take-suc-set, take-add, get_or-drop, drop-drop, drop-set-add, set_at, append_snoc}
-use Rattle.words.specs.Words.{bytes_of}
+use borrow.Rule.Slice.PartMut.{put_mid}
+use Rattle.words.proofs.Bytes.{part-written}
 use Rattle.places.specs.Places.{put, run}
 use Rattle.places.proofs.Places as Places
 use Rattle.places.proofs.Places.{put-append}
@@ -29,18 +30,6 @@ pub store_more : (img src : List ℕ) (to at i m : ℕ) → at + i ≤ length sr
     → put (put img (run to i) (take i (drop at src))) (run (to + i) m) (take m (drop (at + i) src)) ≡ put img (run to (i + m)) (take (i + m) (drop at src))
 store_more img src to at i m h = rw run-add (store-after img src i m to (to + i) at h)
 
--- the same, of the contents before and after the turn
-pub more_stored : (img src : List ℕ) (to at i m : ℕ) {out out' : List ℕ} → at + i ≤ length src → out ≡ put img (run to i) (take i (drop at src))
-    → out' ≡ put out (run (to + i) m) (take m (drop (at + i) src)) → out' ≡ put img (run to (i + m)) (take (i + m) (drop at src))
-more_stored img src to at i m h d e = e ∙ rw d (store_more img src to at i m h)
-
--- one byte of it
-pub store_next : (img src : List ℕ) (to at i : ℕ) → at + i < length src
-    → set (put img (run to i) (take i (drop at src))) (to + i) (get_or src (at + i) 0) ≡ put img (run to (i + 1)) (take (i + 1) (drop at src))
-store_next img src to at i h =
-    let one : take 1 (drop (at + i) src) ≡ get_or src (at + i) 0 ∷ [] = take-suc (drop (at + i) src) 0 0 (rw length-drop (omega arith)) ∙ rw (get_or-drop, add-zero) in
-    rw (← store_more img src to at i 1 (omega arith), one)
-
 -- a turn of a loop that takes bytes of a source into a list
 pub held_next : (part src : List ℕ) (at i : ℕ) → i < length part → at + i < length src → take i part ≡ take i (drop at src)
     → take (i + 1) (set part i (get_or src (at + i) 0)) ≡ take (i + 1) (drop at src)
@@ -52,10 +41,10 @@ sets_run : (vs l : List ℕ) (i : ℕ) → sets l i vs ≡ put l (run i (length 
 sets_run [] l i = refl
 sets_run (v ∷ vs) l i = sets_run vs (set l i v) (suc i)
 
--- a word of a source, read and written as a word
-pub word_copied : (out src : List ℕ) (to at n w : ℕ) {out' : List ℕ} → n ≡ 4 → bytes_of 4 w ≡ take 4 (drop at src)
-    → out' ≡ sets out to (bytes_of 4 w) → out' ≡ put out (run to n) (take n (drop at src))
-word_copied out src to at n w e f g = rw (e, ← f) (g ∙ sets_run (bytes_of 4 w) out to)
+-- a run that is overwritten
+pub run-written : (out part vs : List ℕ) (to k n : ℕ) → part ≡ vs → length vs ≡ n → k ≡ n → to + n ≤ length out → put_mid to k out part ≡ put out (run to n) vs
+run-written out part vs to k n e l m h =
+    part-written out part vs to k e (m ∙ sym l) (rw l h) ∙ sets_run vs out to ∙ ap (λ (j : ℕ). put out (run to j) vs) l
 
 -- ---- stores into the first of two parts of a list, into the second, and where the first ends
 

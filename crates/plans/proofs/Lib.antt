@@ -1,6 +1,6 @@
 pub mod Entries
 pub mod Placements
+pub mod Planned
 pub mod Refusals
 pub mod Theorem
 pub mod Cases
-pub mod Comparing

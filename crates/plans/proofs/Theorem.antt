@@ -49,7 +49,7 @@ own_records [] = refl
 own_records (k ∷ ks) = ([], ks, refl, refl, own_records ks)
 
 -- of an accepted list it is accepted,
-own_accepted : {list sig : List ℕ} → Accepted true list sig → Accepted false sig sig
+pub own_accepted : {list sig : List ℕ} → Accepted true list sig → Accepted false sig sig
 own_accepted {sig = sig} v = record { records = own_records sig; none_refused = v.none_refused }
 
 -- ---- into a buffer that is long enough

@@ -12,8 +12,7 @@ use Rattle.o32_laws.specs.Refusing.{arguments_in, Records, Accepted, RefusedAt, 
 use Rattle.o32_laws.specs.Demand.{Demand}
 use Rattle.plans.specs.declared.Entry.{Entry}
 use Rattle.plans.specs.declared.Plan.{Plan}
-use Rattle.plans.specs.declared.PlanAnswer.{PlanAnswer}
-use Rattle.plans.specs.Plans.{no_entry, numbers, make_into, fill_into, signature_into}
+use Rattle.plans.specs.Plans.{PlanAnswer, no_entry, numbers, make_into, fill_into, signature_into}
 
 -- The pair, with the function that gives a list's signature: of a signature into a buffer for a plan's numbers; of a plan's numbers
 -- and a list into a buffer for the image; of a list into a buffer for its signature.

@@ -1,7 +1,9 @@
 -- Plans (request (vii) of document 02): "one operation makes a plan from signature and device, one fills an image from plan and list."
-use Rattle.std.specs.Prelude.{List, [], ◌∷◌, ◌++◌, Bool, true, false, cond, ℕ, ◌-◌, length, replicate}
+use Rattle.std.specs.Prelude.{List, [], ◌∷◌, ◌++◌, Bool, true, false, cond, ℕ, Result, Ok, Err, ◌-◌, length, replicate}
 use Rattle.words.specs.Words.{same}
 use Rattle.device.specs.declared.Device.{Device}
+use Rattle.answers.specs.declared.Refusal.{Refusal}
+use Rattle.answers.specs.Numbers.{number}
 use Rattle.answers.specs.Outcomes.{Outcome, done, refused, check_room}
 use Rattle.kinds.specs.declared.Class.TheVariants.{Marker}
 use Rattle.kinds.specs.Kinds.{kind_of, is}
@@ -13,7 +15,6 @@ use Rattle.o32.specs.O32.{O32, area}
 use Rattle.o32_laws.specs.Carrying.{register_after, offset_after}
 use Rattle.plans.specs.declared.Entry.{Entry}
 use Rattle.plans.specs.declared.Plan.{Plan}
-use Rattle.plans.specs.declared.PlanAnswer.{PlanAnswer}
 
 -- ---- the plan of some kinds
 
@@ -43,6 +44,19 @@ abbrev pub no_plan : Plan
 no_plan = record { entries = replicate 32 no_entry; count = 0; area = 0 }
 
 -- ---- making one
+
+-- What making a plan answers, in the papers' numbers: a refusal's, its place, its argument's number and a plan that is all zero; or 0,
+-- 0, 0 and the plan.
+pub record PlanAnswer : Type 0 where
+  pub refusal : ℕ
+  pub place : ℕ
+  pub argument : ℕ
+  pub plan : Plan
+
+-- A function's answer in these numbers.
+abbrev pub plan_answer : Result Plan Refusal → PlanAnswer
+plan_answer (Err e) = record { refusal = number e.cause; place = e.place; argument = e.argument; plan = no_plan }
+plan_answer (Ok p) = record { refusal = 0; place = 0; argument = 0; plan = p }
 
 -- The refusal of a signature or a list and with it 0 "in every other part of the answer", or the plan of its kinds.
 abbrev pub answered : Device → Scan State → PlanAnswer

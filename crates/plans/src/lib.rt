@@ -2,7 +2,7 @@
 #![tactic(auto)]
 
 // An entry of a plan. Request (vii) of document 02: "A placement is the kind, the offset and the floating register or 0."
-#[derive(Clone, Copy)]
+#[derive(Clone, Copy, PartialEq, Eq)]
 pub struct Entry {
     // the kind byte
     pub kind: u8,
@@ -13,18 +13,9 @@ pub struct Entry {
 }
 
 // "A plan holds up to 32 placements with their count and the area size; entries past the count are zero."
-#[derive(Clone, Copy)]
+#[derive(Clone, Copy, PartialEq, Eq)]
 pub struct Plan {
     pub entries: [Entry; 32],
     pub count: u32,
     pub area: u32,
-}
-
-// What `make_plan` answers: a refusal, its place, its argument's number and a plan that is all zero; or 0, 0, 0 and the plan.
-#[derive(Clone, Copy)]
-pub struct PlanAnswer {
-    pub refusal: u32,
-    pub place: usize,
-    pub argument: usize,
-    pub plan: Plan,
 }

@@ -18,201 +18,126 @@
 // the buffer is kept. The answer to changed is how many of the 98 plans were refused 20.
 #![tactic(auto)]
 
-ghost use Rattle.std.specs.Prelude.{◌≤◌, length};
+ghost use Rattle.std.specs.Prelude.{◌<◌, ◌≤◌, length};
 
+use answers::{Cause, Refusal};
+use case_output::{print, print_byte, print_number};
 use device::Device;
 
-// Where the text of cases comes from, and where the answers go.
-const STDIN_FILENO: i32 = 0;
-
-const STDOUT_FILENO: i32 = 1;
-
-// A text to standard output. Of what is printed the language has nothing to promise.
-fn print(text: &[u8]) {
-    io::write_all(STDOUT_FILENO, text);
-}
-
-fn print_number(name: &[u8], n: u64) {
-    print(name);
-    io::print_decimal(STDOUT_FILENO, n);
-}
-
-// The answer to a line that has another form.
-fn malformed() {
-    print(b"malformed\n");
-}
-
-fn print_kind(kind: u8) {
-    let digits = [text::high_digit(kind), text::low_digit(kind)];
-    print(b" kind ");
-    print(&digits);
-}
-
 // One entry of a plan, which stands at this index, if it is not all zero.
-fn print_entry(index: u64, kind: u32, offset: u32, register: u32) {
-    if kind as u64 + offset as u64 + register as u64 == 0 {
+fn print_entry(index: usize, kind: u32, offset: u32, register: u32) {
+    if kind == 0 && offset == 0 && register == 0 {
         return;
     }
-    print_number(b"entry ", index);
-    print_kind((kind % 256) as u8);
+    print_number(b"entry ", index as u64);
+    print_byte(b" kind ", (kind % 256) as u8);
     print_number(b" offset ", offset as u64);
     print_number(b" register ", register as u64);
     print(b"\n");
 }
 
-// The entries that are not all zero. All 32 are looked at, so that one past the count would show.
-fn print_entries(words: [u32; 98]) {
-    let mut i = 0;
-    while i < 32 {
-        let at = 3 * i;
-        print_entry(i as u64, words[at], words[at + 1], words[at + 2]);
-        i += 1;
-    }
-}
-
+// The count, the area size and the entries that are not all zero. All 32 are looked at, so that one past the count would show.
 fn print_words(words: [u32; 98]) {
     print_number(b"count ", words[96] as u64);
     print_number(b" area ", words[97] as u64);
     print(b"\n");
-    print_entries(words);
+    for i in 0..32 {
+        let at = 3 * i;
+        print_entry(i, words[at], words[at + 1], words[at + 2]);
+    }
 }
 
 // The plan of a signature. The words of one that is refused are zero here.
-fn print_plan(device: Device, signature: &[u8]) {
-    let mut words = [0u32; 98];
-    let made = plans_words::make_plan(device, signature, &mut words);
-    case_output::print_refusal(made.refusal, made.place, made.argument);
-    print_words(words);
-}
-
-// The plan of the signature after the first space of a line.
-fn run_plan(device: Device, line: &[u8]) {
-    let space = case_input::find(line, 0, b' ');
+fn run_plan(device: Device, field: &[u8]) -> Option<()> {
     let mut signature = io::buffer();
-    let n = case_input::put_field(line, space, line.len(), &mut signature);
-    if n > 4096 {
-        return malformed();
+    let n = case_input::put_field(field, &mut signature)?;
+    let mut words = [0u32; 98];
+    if let Err(refusal) = plans_words::make_plan(device, &signature[..n], &mut words) {
+        case_output::print_refusal(refusal.cause.number(), refusal.place, refusal.argument);
     }
-    print_plan(device, &signature[..n]);
+    print_words(words);
+    Some(())
 }
 
 // The device that a plan is made for, by the letter of a word: o asks for the other one.
 fn plan_device(word: u8, device: Device) -> Device {
-    if word != b'o' {
-        return device;
-    }
-    match device {
-        Device::Fpu => Device::NoFpu,
-        Device::NoFpu => Device::Fpu,
+    match (word, device) {
+        (b'o', Device::Fpu) => Device::NoFpu,
+        (b'o', Device::NoFpu) => Device::Fpu,
+        _ => device,
     }
 }
+
+// Each function below lends a part of a buffer of its own, so each is given the room.
 
 // The image of a list by the words of a plan, in a buffer of so many bytes.
-fn print_fill(device: Device, words: &[u32], room: usize, list: &[u8])
+fn print_fill(device: Device, words: [u32; 98], room: usize, list: &[u8])
     requires { room ≤ 4096 }
 {
     let mut out = case_output::fresh_buffer();
-    let answer = plans_words::fill(device, words, list, &mut out[..room]);
-    case_output::print_answer(answer, &out);
+    let answer = plans_words::fill(device, &words, list, &mut out[..room]);
+    case_output::print_answer(answer.into(), &out);
 }
 
-// Whether a plan with these words is refused 20 for a list.
-fn is_refused(device: Device, words: &[u32], room: usize, list: &[u8]) -> bool
-    requires { room ≤ 4096 }
+// Whether the plan that has one of these words one higher is refused as another's for a list.
+fn is_refused(device: Device, words: [u32; 98], place: usize, room: usize, list: &[u8]) -> bool
+    requires place_bound { place < 98 }
+    requires room_bound { room ≤ 4096 }
 {
+    let mut changed = words;
+    changed[place] = changed[place].wrapping_add(1);
     let mut out = case_output::fresh_buffer();
-    let answer = plans_words::fill(device, words, list, &mut out[..room]);
-    answer.refusal == 20
+    let answer = plans_words::fill(device, &changed, list, &mut out[..room]);
+    answer.is_err_and(|refusal| refusal.cause == Cause::OtherPlan)
 }
 
 // How many of the 98 plans that have one of these words one higher are refused 20 for a list.
 fn print_changed(device: Device, words: [u32; 98], room: usize, list: &[u8])
     requires { room ≤ 4096 }
 {
-    let mut refused = 0;
-    let mut i = 0;
-    while i < 98 {
-        let mut changed = words;
-        changed[i] = std::num::wrapping_add_u32(words[i], 1);
-        if is_refused(device, &changed, room, list) {
-            refused += 1;
-        }
-        i += 1;
-    }
-    print_number(b"refused 20: ", refused);
+    let refused = (0..98usize)
+        .filter(|place| is_refused(device, words, *place, room, list))
+        .count();
+    print_number(b"refused 20: ", refused as u64);
     print(b" of 98\n");
 }
 
-// The case of a signature and a list, by the letter of its word.
-fn print_case(word: u8, device: Device, room: usize, signature: &[u8], list: &[u8])
+// A case of a signature and a list, by the letter of its word.
+fn run_case(word: u8, device: Device, room: usize, fields: &[u8]) -> Option<()>
     requires { room ≤ 4096 }
 {
-    let mut words = [0u32; 98];
-    plans_words::make_plan(plan_device(word, device), signature, &mut words);
-    if word == b'c' {
-        return print_changed(device, words, room, list);
-    }
-    print_fill(device, &words, room, list);
-}
-
-// The same, of the signature from a place of a line to a comma, and the list after it.
-fn run_case(word: u8, device: Device, room: usize, line: &[u8], from: usize)
-    requires room_bound { room ≤ 4096 }
-    requires from_in_bounds { from ≤ length line.now }
-{
-    let comma = case_input::find(line, from, b',');
-    if comma >= line.len() {
-        return malformed();
-    }
     let mut signature = io::buffer();
-    let n = case_input::put_field(line, from, comma, &mut signature);
-    if n > 4096 {
-        return malformed();
-    }
     let mut list = io::buffer();
-    let m = case_input::put_field(line, comma + 1, line.len(), &mut list);
-    if m > 4096 {
-        return malformed();
+    let (n, m) = case_input::put_pair(fields, &mut signature, &mut list)?;
+    let mut words = [0u32; 98];
+    let _ = plans_words::make_plan(plan_device(word, device), &signature[..n], &mut words);
+    if word == b'c' {
+        print_changed(device, words, room, &list[..m]);
+    } else {
+        print_fill(device, words, room, &list[..m]);
     }
-    print_case(word, device, room, &signature[..n], &list[..m]);
+    Some(())
 }
 
-// The case of a line. A comment is none.
-fn run(line: &[u8])
+// The case of a line, if it has one of these forms. The letters are the text's, so they are matched.
+fn run(line: &[u8]) -> Option<()>
     requires { 1 ≤ length line.now }
 {
-    if line[0] == b'#' {
-        return;
-    }
     let device = case_input::device_of(line);
     let word = case_input::letter(line);
     if word == b'p' {
-        return run_plan(device, line);
+        return run_plan(device, case_input::after_word(line));
     }
-    let room = case_input::room(line);
+    let room = case_input::room(line)?;
     if room.value > 4096 {
-        return malformed();
+        return None;
     }
     match word {
-        b'c' | b'f' | b'o' => run_case(word, device, room.value, line, room.end),
-        _ => malformed(),
-    }
-}
-
-// Prints each line of a text, and runs its case.
-fn run_lines(text: &[u8]) {
-    let mut at = 0;
-    while at < text.len() {
-        let end = case_output::print_line(text, at);
-        if end > at {
-            run(&text[at..end]);
-        }
-        at = end + 1;
+        b'c' | b'f' | b'o' => run_case(word, device, room.value, &line[room.end..]),
+        _ => None,
     }
 }
 
 fn main() {
-    let mut text = [0u8; 16384];
-    let n = io::read_full(STDIN_FILENO, &mut text);
-    run_lines(&text[..n]);
+    case_output::run_input::<16384, _>(run);
 }

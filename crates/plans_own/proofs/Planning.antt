@@ -81,9 +81,6 @@ module _ {d : Device} {bodies : Bool} {l : List ℕ} {m : ℕ} {entries : List E
   planning_count : st.prefix.count ≡ length (entries_after d [] w.before)
   planning_count = rw w.reached (reach-count start w.before ∙ omega (arith, entries_count d [] w.before))
 
-  pub planning_few : st.prefix.count ≤ 32
-  planning_few = w.ahead.held.few
-
   module _ (a : Admitted (O32 d) bodies l m) (h : at < length l) where
     abbrev k : ℕ
     k = get_or l at 0
@@ -143,9 +140,6 @@ module _ {d : Device} {bodies : Bool} {l : List ℕ} {m : ℕ} {entries : List E
     pub planning_inside : at + 1 + body_length bodies kd.size ≤ length l
     planning_inside = rw e (ahead_inside w.ahead h)
 
-    pub planning_fits : (p.register ≤ 14) × (p.offset ≤ end_most)
-    planning_fits = rw (g, e) (fits a h)
-
     pub planning_room : is Marker kd ≡ false → st.prefix.count < 32
     planning_room = rw e (room a h)
 
@@ -156,10 +150,6 @@ module _ {d : Device} {bodies : Bool} {l : List ℕ} {m : ℕ} {entries : List E
 
       pub planning_marker : {entries' : List Entry} → is Marker kd ≡ true → entries' ≡ entries → Planning d bodies l m entries' st' at'
       planning_marker i q = turn a h (o ∙ ap (advance st) e) (f ∙ rw e refl) (q ∙ rw (rw e at i) refl)
-
--- no image is longer
-pub image_small : (d : Device) {bodies : Bool} {l : List ℕ} {m : ℕ} → Admitted (O32 d) bodies l m → m ≤ 1056
-image_small d {bodies} {l} a = omega (arith, a.whole, (scan_bound d bodies l a.placed a.last a.scanned).fits)
 
 -- where no record is left, it is the plan
 pub planning_ends : {d : Device} {bodies : Bool} {l : List ℕ} {m : ℕ} {entries : List Entry} {st : State} {at : ℕ} → Planning d bodies l m entries st at → Admitted (O32 d) bodies l m

@@ -3,20 +3,20 @@
 
 ghost use Rattle.std.specs.Prelude.{true, List, ◌≡◌, ◌+◌, ◌≤◌, ℕ, get_or, length};
 ghost use Rattle.device.specs.declared.Device.{Device};
-ghost use Rattle.answers.specs.Outcomes.{answer_of, buffer_of, over};
+ghost use Rattle.answers.specs.Outcomes.{answer_of, buffer_of, in_numbers, over};
 ghost use Rattle.kinds.specs.Kinds.{kind_of};
 ghost use Rattle.o32_laws.specs.Refusing.{Records};
 ghost use Rattle.plans.specs.Plans.{signature_into};
 
-use answers::Answer;
-use passes::Measured;
+use answers::{Cause, Refusal};
+use kinds::Kind;
 
-// The place after the record at this place.
+// The place after the record at this place. Walks by it are no `for`, since each step is as long as its record.
 fn after_record(list: &[u8], at: usize) -> usize
     requires { at + 1 + (kind_of (get_or list.now at 0)).size ≤ length list.now }
     ensures { result ≡ at + 1 + (kind_of (get_or list.now at 0)).size }
 {
-    let kind = kinds::kind_of(list[at]);
+    let kind = Kind::from(list[at]);
     at + 1 + kind.size
 }
 
@@ -49,18 +49,15 @@ fn copy_kinds(list: &[u8], out: &mut [u8])
 }
 
 // The signature of a list: its kind bytes, in order. Refusals 1 to 5 by record, then 7; no byte is stored before all are decided.
-pub fn signature_of(list: &[u8], out: &mut [u8]) -> Answer
-    ensures answer { (d : Device) → result ≡ answer_of (signature_into d list.now (length out.old)) }
+pub fn signature_of(list: &[u8], out: &mut [u8]) -> Result<usize, Refusal>
+    ensures answer { (d : Device) → in_numbers result ≡ answer_of (signature_into d list.now (length out.old)) }
     ensures buffer { (d : Device) → out.new ≡ buffer_of (signature_into d list.now (length out.old)) out.old }
 {
-    let found = o32_measure::measure_list(list);
-    let Measured::Accepted { .. } = found else {
-        return passes::refused(found);
-    };
+    o32_measure::measure_list(list)?;
     let n = count_records(list);
     if out.len() < n {
-        return answers::reply(7, 0, 0, 0); // the signature does not fit
+        return Err(Cause::BufferTooShort.into());
     }
     copy_kinds(list, out);
-    answers::reply(0, 0, 0, n)
+    Ok(n)
 }

@@ -1,108 +1,122 @@
--- Words, compared with the entries of a plan one by one, and with zero past them.
+-- Words, compared with the entries of a plan three at a time, an entry's: those still to be compared decide; with zero past them; and
+-- with a plan.
 -- Assumes nothing.
 use mathlib.Core.Path.{◌≡◌, refl, sym, ap, ap₂, ◌∙◌}
 use mathlib.Core.List.{List, [], ◌∷◌, ◌++◌}
 use mathlib.Core.Bool.{Bool, true, false, ◌&&◌}
 use Prim.Native.Nat.{ℕ, zero, suc, ◌+◌, ◌-◌, ◌*◌, ◌≤◌, ◌<◌}
 use native.Mathlib.Omega.{arith}
-use native.Mathlib.Numerals.{add-one}
-use lib.ListN.{length, get_or, take, drop, replicate, take-append-drop, drop_of_length-le}
-use lib.Seq.{drop-cons, length-take-le, get_or-take, take_at, take-take}
+use native.Mathlib.Numerals.{add-one, add-two, add-three}
+use native.Mathlib.Nat.{add-zero}
+use lib.ListN.{length, get_or, take, drop, replicate, take-append-drop, drop_of_length-le, length-drop}
+use lib.Seq.{drop-nil, drop-cons, get_or-drop, length-take-le, get_or-take, take_at, take-take}
 use lib.Dec.{eqb}
-use borrow.Author.Tests.{eq-eqb, ne_eqb, eqb-true, eqb-false}
+use Rattle.std.specs.List.{sum, list_all}
+use Rattle.std.proofs.Math.Bool.{and-true, and_assoc}
+use Rattle.std.proofs.lemmas.List.{drop-take}
+use Rattle.std.proofs.lemmas.List.Folds.{sum_by-zero}
 use Rattle.words.specs.Words.{same}
 use Rattle.plans.specs.declared.Entry.{Entry}
 use Rattle.plans.specs.declared.Plan.{Plan}
 use Rattle.plans.specs.Plans.{no_entry, padded, entry_numbers, numbers}
 use Rattle.plans.proofs.Entries.{entry_numbers_long, numbers_long, padded_long}
-use Rattle.plans.proofs.Comparing as C
-use Rattle.plans.proofs.Comparing.{and-true, same-append, three_at, three_of_entry, Agreeing, three_differ, three_agree}
 use Rattle.plans_words.proofs.Storing.{numbers-append}
+
+same-append : (xs ys us vs : List ℕ) → length xs ≡ length ys → same (xs ++ us) (ys ++ vs) ≡ same xs ys && same us vs
+same-append [] [] us vs e = refl
+same-append [] (y ∷ ys) us vs e = absurd (omega arith)
+same-append (x ∷ xs) [] us vs e = absurd (omega arith)
+same-append (x ∷ xs) (y ∷ ys) us vs e = rw (same-append xs ys us vs (omega arith)) (sym (and_assoc (eqb x y) (same xs ys) (same us vs)))
+
+-- ---- three numbers
+
+abbrev three_at : List ℕ → ℕ → List ℕ
+three_at xs at = get_or xs at 0 ∷ get_or xs (at + 1) 0 ∷ get_or xs (at + 2) 0 ∷ []
+
+three_ahead : (xs : List ℕ) (at : ℕ) → at + 2 < length xs → drop at xs ≡ three_at xs at ++ drop (at + 3) xs
+three_ahead xs at h = rw (add-one at, add-two at, add-three at)
+    (drop-cons xs at 0 (omega arith)
+    ∙ ap (λ (x : List ℕ). get_or xs at 0 ∷ x) (drop-cons xs (suc at) 0 (omega arith) ∙ ap (λ (x : List ℕ). get_or xs (suc at) 0 ∷ x) (drop-cons xs (suc (suc at)) 0 (omega arith))))
+
+numbers-drop : (i : ℕ) (es : List Entry) → drop (3 * i) (entry_numbers es) ≡ entry_numbers (drop i es)
+numbers-drop zero es = refl
+numbers-drop (suc i) [] = drop-nil (3 * suc i)
+numbers-drop (suc i) (e ∷ es) =
+    let m : 3 * suc i ≡ suc (suc (suc (3 * i))) = omega arith in
+    rw m (numbers-drop i es)
+
+three_shifted : (xs : List ℕ) (at : ℕ) → three_at xs at ≡ three_at (drop at xs) 0
+three_shifted xs at = rw (get_or-drop at xs 0 0, get_or-drop at xs 1 0, get_or-drop at xs 2 0, add-zero at) refl
+
+three_of_entry : (es : List Entry) (i : ℕ) → i < length es → three_at (entry_numbers es) (3 * i) ≡ entry_numbers (get_or es i no_entry ∷ [])
+three_of_entry es i h = three_shifted (entry_numbers es) (3 * i) ∙ rw (numbers-drop i es, drop-cons es i no_entry h) refl
+
+-- ---- all that are compared
+
+-- the first i entries' numbers agree, so the rest decides
+pub record Agreeing (xs ys : List ℕ) (i : ℕ) : Type 0 where
+  pub rest : same xs ys ≡ same (drop (3 * i) xs) (drop (3 * i) ys)
+
+module _ {xs ys : List ℕ} {i : ℕ} (w : Agreeing xs ys i) (h : 3 * i + 2 < length xs) (h' : 3 * i + 2 < length ys) where
+  apart : same xs ys ≡ same (three_at xs (3 * i)) (three_at ys (3 * i)) && same (drop (3 * (i + 1)) xs) (drop (3 * (i + 1)) ys)
+  apart =
+      let m : 3 * i + 3 ≡ 3 * (i + 1) = omega arith in
+      w.rest
+      ∙ rw (three_ahead xs (3 * i) h, three_ahead ys (3 * i) h', m) (same-append (three_at xs (3 * i)) (three_at ys (3 * i)) (drop (3 * (i + 1)) xs) (drop (3 * (i + 1)) ys) refl)
+
+  three_differ : same (three_at xs (3 * i)) (three_at ys (3 * i)) ≡ false → same xs ys ≡ false
+  three_differ e = apart ∙ rw e refl
+
+  three_agree : same (three_at xs (3 * i)) (three_at ys (3 * i)) ≡ true → Agreeing xs ys (i + 1)
+  three_agree e = record { rest = apart ∙ rw e refl }
 
 -- ---- entries
 
-pub record Comparing (words : List ℕ) (entries : List Entry) (count i : ℕ) : Type 0 where
-  pub within : i ≤ count
-  pub agreeing : Agreeing (take (3 * count) words) (entry_numbers (take count entries)) i
+module _ (words : List ℕ) (entries : List Entry) (room : 3 * length entries ≤ length words) (i : ℕ) (w : Agreeing (take (3 * length entries) words) (entry_numbers entries) i) where
+  words_long : length (take (3 * length entries) words) ≡ 3 * length entries
+  words_long = length-take-le (3 * length entries) words room
 
-pub compare_starts : (words : List ℕ) (entries : List Entry) (count : ℕ) → Comparing words entries count 0
-compare_starts words entries count = record { within = omega arith; agreeing = record { rest = refl } }
-
-module _ {words : List ℕ} {entries : List Entry} (few : length entries ≡ 32) {count : ℕ} (given : (count ≤ 32) × (length words ≡ 98)) {i : ℕ} (w : Comparing words entries count i) where
-  words_long : length (take (3 * count) words) ≡ 3 * count
-  words_long = length-take-le (3 * count) words (omega arith)
-
-  entries_long : length (take count entries) ≡ count
-  entries_long = length-take-le count entries (omega arith)
-
-  module _ (h : i < count) where
-    inside : (3 * i + 2 < length (take (3 * count) words)) × (3 * i + 2 < length (entry_numbers (take count entries)))
-    inside = (omega (arith, words_long), omega (arith, entry_numbers_long (take count entries), entries_long))
+  module _ (h : i < length entries) where
+    inside : (3 * i + 2 < length (take (3 * length entries) words)) × (3 * i + 2 < length (entry_numbers entries))
+    inside = (omega (arith, words_long), omega (arith, entry_numbers_long entries))
 
     -- what is compared at this turn
-    turn : same (three_at (take (3 * count) words) (3 * i)) (three_at (entry_numbers (take count entries)) (3 * i)) ≡ same (three_at words (3 * i)) (entry_numbers (get_or entries i no_entry ∷ []))
+    turn : same (three_at (take (3 * length entries) words) (3 * i)) (three_at (entry_numbers entries) (3 * i)) ≡ same (three_at words (3 * i)) (entry_numbers (get_or entries i no_entry ∷ []))
     turn =
-        let t : three_at (take (3 * count) words) (3 * i) ≡ three_at words (3 * i) =
-        rw (get_or-take (3 * count) words (3 * i) 0 (omega arith), get_or-take (3 * count) words (3 * i + 1) 0 (omega arith), get_or-take (3 * count) words (3 * i + 2) 0 (omega arith)) refl in
-        ap₂ same t
-        (three_of_entry (take count entries) i (omega (arith, entries_long)) ∙ ap (λ (e : Entry). entry_numbers (e ∷ [])) (get_or-take count entries i no_entry h))
+        let t : three_at (take (3 * length entries) words) (3 * i) ≡ three_at words (3 * i) =
+        rw (get_or-take (3 * length entries) words (3 * i) 0 (omega arith), get_or-take (3 * length entries) words (3 * i + 1) 0 (omega arith), get_or-take (3 * length entries) words (3 * i + 2) 0 (omega arith)) refl in
+        ap₂ same t (three_of_entry entries i h)
 
-    pub compare_differs : same (three_at words (3 * i)) (entry_numbers (get_or entries i no_entry ∷ [])) ≡ false → false ≡ same (take (3 * count) words) (entry_numbers (take count entries))
-    compare_differs e = sym (three_differ w.agreeing inside.0 inside.1 (turn ∙ e))
+    pub compare_differs : same (three_at words (3 * i)) (entry_numbers (get_or entries i no_entry ∷ [])) ≡ false → false ≡ same (take (3 * length entries) words) (entry_numbers entries)
+    compare_differs e = sym (three_differ w inside.0 inside.1 (turn ∙ e))
 
-    pub compare_turn : same (three_at words (3 * i)) (entry_numbers (get_or entries i no_entry ∷ [])) ≡ true → Comparing words entries count (i + 1)
-    compare_turn e = record { within = omega arith; agreeing = three_agree w.agreeing inside.0 inside.1 (turn ∙ e) }
+    pub compare_turn : same (three_at words (3 * i)) (entry_numbers (get_or entries i no_entry ∷ [])) ≡ true → Agreeing (take (3 * length entries) words) (entry_numbers entries) (i + 1)
+    compare_turn e = three_agree w inside.0 inside.1 (turn ∙ e)
 
-  pub compare_ends : count ≤ i → true ≡ same (take (3 * count) words) (entry_numbers (take count entries))
+  pub compare_ends : length entries ≤ i → true ≡ same (take (3 * length entries) words) (entry_numbers entries)
   compare_ends h =
-      sym (w.agreeing.rest
-      ∙ rw (drop_of_length-le (take (3 * count) words) {i = 3 * i} (omega (arith, words_long)), drop_of_length-le (entry_numbers (take count entries)) {i = 3 * i} (omega (arith, entry_numbers_long (take count entries), entries_long))) refl)
+      sym (w.rest
+      ∙ rw (drop_of_length-le (take (3 * length entries) words) {i = 3 * i} (omega (arith, words_long)), drop_of_length-le (entry_numbers entries) {i = 3 * i} (omega (arith, entry_numbers_long entries))) refl)
 
 -- ---- zero words
 
-sum-zero : (a b : ℕ) → eqb (a + b) 0 ≡ eqb a 0 && eqb b 0
-sum-zero a b = go (eqb a 0) (eqb b 0) refl refl
-  where
-    go : (s t : Bool) → eqb a 0 ≡ s → eqb b 0 ≡ t → eqb (a + b) 0 ≡ s && t
-    go true true e f = eq-eqb (a + b) 0 (omega (arith, eqb-true a 0 e, eqb-true b 0 f))
-    go true false e f = ne_eqb (a + b) 0 (λ z. eqb-false b 0 f (omega arith))
-    go false t e f = ne_eqb (a + b) 0 (λ z. eqb-false a 0 e (omega arith))
+same-zeros : (xs : List ℕ) → list_all (λ x. eqb x 0) xs ≡ same xs (replicate (length xs) 0)
+same-zeros [] = refl
+same-zeros (x ∷ xs) = ap (λ (t : Bool). eqb x 0 && t) (same-zeros xs)
 
-pub record Adding (words : List ℕ) (from sum i : ℕ) : Type 0 where
-  pub after : from ≤ i
-  pub within : i ≤ 96
-  pub small : sum ≤ (i - from) * 4294967295
-  pub rest : same (drop from (take 96 words)) (replicate (96 - from) 0) ≡ eqb sum 0 && same (drop i (take 96 words)) (replicate (96 - i) 0)
-
-pub adding_starts : (words : List ℕ) (from : ℕ) → from ≤ 96 → Adding words from 0 from
-adding_starts words from h = record { after = omega arith; within = h; small = omega arith; rest = refl }
-
-module _ {words : List ℕ} (long : length words ≡ 98) {from sum i : ℕ} (w : Adding words from sum i) where
-  pub adding_turn : i < 96 → get_or words i 0 < 4294967296 → Adding words from (sum + get_or words i 0) (i + 1)
-  adding_turn h l =
-      let n : length (take 96 words) ≡ 96 = length-take-le 96 words (omega arith) in
-      let x : ℕ = get_or words i 0 in
-      let m : 96 - i ≡ suc (96 - (i + 1)) = omega arith in
-      let d : drop i (take 96 words) ≡ x ∷ drop (i + 1) (take 96 words) = drop-cons (take 96 words) i 0 (omega arith) ∙ rw (get_or-take 96 words i 0 h, add-one i) refl in
-      let R : Bool = same (drop (i + 1) (take 96 words)) (replicate (96 - (i + 1)) 0) in
-      record {
-        after = omega (arith, w.after);
-        within = omega arith;
-        small = omega (arith, w.small, w.after);
-        rest = w.rest ∙ rw (d, m) (go (eqb sum 0) (eqb x 0) R) ∙ ap (λ (t : Bool). t && R) (sym (sum-zero sum x));
-      }
-    where
-      go : (s t u : Bool) → s && (t && u) ≡ (s && t) && u
-      go true t u = refl
-      go false t u = refl
-
-  pub adding_ends : 96 ≤ i → eqb sum 0 ≡ same (drop from (take 96 words)) (replicate (96 - from) 0)
-  adding_ends h =
-      let z : i ≡ 96 = omega (arith, w.within) in
-      let n : length (take 96 words) ≡ 96 = length-take-le 96 words (omega arith) in
-      sym (w.rest ∙ rw (z, drop_of_length-le (take 96 words) {i = 96} (omega arith)) (and-true (eqb sum 0)))
+-- they are zero where their sum is
+zeros_by_sum : (xs : List ℕ) → same xs (replicate (length xs) 0) ≡ eqb (sum xs) 0
+zeros_by_sum xs = sym (sum_by-zero (λ x. x) xs ∙ same-zeros xs)
 
 -- ---- a plan
+
+-- as many numbers as the entries have, a count and an area, with a plan
+module _ (entries : List ℕ) (count area : ℕ) (p : Plan) (long : length entries ≡ length (entry_numbers p.entries)) where
+  abbrev Compared : Bool
+  Compared = same (entries ++ (count ∷ area ∷ [])) (numbers p)
+
+  parts : Compared ≡ same entries (entry_numbers p.entries) && (eqb count p.count && (eqb area p.area && true))
+  parts = same-append entries (entry_numbers p.entries) (count ∷ area ∷ []) (p.count ∷ p.area ∷ []) long
 
 -- zero entries have zero numbers
 numbers-zero : (k : ℕ) → entry_numbers (replicate k no_entry) ≡ replicate (3 * k) 0
@@ -121,9 +135,27 @@ same_long (x ∷ xs) (y ∷ ys) h = rw (← same_long xs ys (λ e. h (omega arit
     and-false true = refl
     and-false false = refl
 
+-- a test that is made only where the test before it passed
+pub and_then : {x y v : Bool} → x ≡ true → v ≡ y → v ≡ x && y
+and_then e f = rw (e, f) refl
+
+pub and_else : {x v : Bool} (y : Bool) → x ≡ false → v ≡ x → v ≡ x && y
+and_else y e f = rw (f, e) refl
+
 -- what is known of a plan whose entries past the count are zero
 abbrev pub ZeroPast : Plan → Type 0
 ZeroPast p = (es : List Entry) × (length es ≤ 32) × (p.entries ≡ padded es) × (p.count ≡ length es)
+
+-- the first words, compared with the entries up to the count; the sum of those past it; and the count
+module _ (words : List ℕ) (p : Plan) where
+  abbrev pub First : Bool
+  First = same (take (3 * length (take p.count p.entries)) words) (entry_numbers (take p.count p.entries))
+
+  abbrev pub Rest : Bool
+  Rest = eqb (sum (take (96 - 3 * p.count) (drop (3 * p.count) words))) 0
+
+  abbrev pub Counted : Bool
+  Counted = (First && Rest) && eqb (get_or words 96 0) p.count
 
 module _ (words : List ℕ) (p : Plan) (zero-past : ZeroPast p) where
   pub entries_32 : length p.entries ≡ 32
@@ -166,22 +198,22 @@ module _ (words : List ℕ) (p : Plan) (zero-past : ZeroPast p) where
     many : length (take 96 words) ≡ length (entry_numbers p.entries)
     many = omega (arith, length-take-le 96 words (omega arith), entry_numbers_long p.entries, entries_32)
 
-    by_split : (t : Bool) → t ≡ same (take 96 words ++ (get_or words 96 0 ∷ get_or words 97 0 ∷ [])) (numbers p) → t ≡ same words (numbers p)
-    by_split t e = e ∙ ap (λ (x : List ℕ). same x (numbers p)) (sym split)
+    -- so it is a plan's by the first words, the sum of the next, the count and the area
+    by_parts : same words (numbers p) ≡ Counted words p && eqb (get_or words 97 0) p.area
+    by_parts =
+        let z : List ℕ = take (96 - 3 * n) (drop (3 * n) words) in
+        let k : length (take n p.entries) ≡ n = length-take-le n p.entries (omega (arith, count_few, entries_32)) in
+        let l : length z ≡ 96 - 3 * n = length-take-le (96 - 3 * n) (drop (3 * n) words) (omega (arith, length-drop (3 * n) words, count_few)) in
+        let m : 3 * n + (96 - 3 * n) ≡ 96 = omega (arith, count_few) in
+        let d : drop (3 * n) (take 96 words) ≡ z = ap (λ (i : ℕ). drop (3 * n) (take i words)) (sym m) ∙ drop-take (3 * n) (96 - 3 * n) words in
+        let s : same (drop (3 * n) (take 96 words)) (replicate (96 - 3 * n) 0) ≡ Rest words p =
+        ap (λ (x : List ℕ). same x (replicate (96 - 3 * n) 0)) d ∙ ap (λ (k : ℕ). same z (replicate k 0)) (sym l) ∙ zeros_by_sum z in
+        ap (λ (x : List ℕ). same x (numbers p)) split
+        ∙ parts (take 96 words) (get_or words 96 0) (get_or words 97 0) p many
+        ∙ rw (entries_apart, s, k) (rw and-true (sym (and_assoc _ (eqb (get_or words 96 0) n) (eqb (get_or words 97 0) p.area))))
 
-    pub entries_differ : same (take (3 * n) words) (entry_numbers (take n p.entries)) ≡ false → false ≡ same words (numbers p)
-    entries_differ e = by_split false (C.entries_differ (take 96 words) (get_or words 96 0) (get_or words 97 0) p many (entries_apart ∙ rw e refl))
+    pub area_decides : Counted words p ≡ true → eqb (get_or words 97 0) p.area ≡ same words (numbers p)
+    area_decides e = sym (by_parts ∙ rw e refl)
 
-    module _ (e : same (take (3 * n) words) (entry_numbers (take n p.entries)) ≡ true) where
-      pub rest_differs : same (drop (3 * n) (take 96 words)) (replicate (96 - 3 * n) 0) ≡ false → false ≡ same words (numbers p)
-      rest_differs f = by_split false (C.entries_differ (take 96 words) (get_or words 96 0) (get_or words 97 0) p many (entries_apart ∙ rw (e, f) refl))
-
-      module _ (f : same (drop (3 * n) (take 96 words)) (replicate (96 - 3 * n) 0) ≡ true) where
-        all_agree : same (take 96 words) (entry_numbers p.entries) ≡ true
-        all_agree = entries_apart ∙ rw (e, f) refl
-
-        pub counts_differ : (get_or words 96 0 ≡ n → ⊥) → false ≡ same words (numbers p)
-        counts_differ h = by_split false (C.counts_differ (take 96 words) (get_or words 96 0) (get_or words 97 0) p many all_agree h)
-
-        pub area_decides : get_or words 96 0 ≡ n → eqb (get_or words 97 0) p.area ≡ same words (numbers p)
-        area_decides h = by_split (eqb (get_or words 97 0) p.area) (C.area_decides (take 96 words) (get_or words 96 0) (get_or words 97 0) p many all_agree h)
+    pub words_differ : Counted words p ≡ false → false ≡ same words (numbers p)
+    words_differ e = sym (by_parts ∙ rw e refl)

@@ -6,7 +6,7 @@ use Prim.Native.Nat.{ℕ, ◌+◌, ◌-◌, ◌*◌, ◌≤◌, ◌<◌}
 use native.Mathlib.Omega.{arith}
 use native.Mathlib.Numerals.{add-one, add-two}
 use lib.ListN.{length, get_or, set, take, drop, length-append, length-set, length-drop}
-use lib.Seq.{sets-eq, take-suc, take_at, drop-append-add, take_all, length-take-le, drop-drop}
+use lib.Seq.{sets-eq, take-suc, take_at, drop-append-add, length-take-le, drop-drop}
 use Rattle.answers.specs.Outcomes.{over}
 use Rattle.plans.specs.declared.Entry.{Entry}
 use Rattle.plans.specs.declared.Plan.{Plan}
@@ -29,40 +29,21 @@ three_stores done rest at a b c e h =
     (sets-eq (a ∷ b ∷ c ∷ []) (done ++ rest) at l
     ∙ rw (take_at done rest at e, ← e, drop-append-add done rest 3) refl)
 
-pub record Storing (entries : List Entry) (out o : List ℕ) (i : ℕ) : Type 0 where
-  pub within : i ≤ 32
-  pub same_length : length o ≡ length out
-  pub stored : o ≡ entry_numbers (take i entries) ++ drop (3 * i) out
-
-pub storing_starts : (entries : List Entry) (out : List ℕ) → Storing entries out out 0
-storing_starts entries out = record { within = omega arith; same_length = refl; stored = refl }
-
-module _ {entries : List Entry} (long : length entries ≡ 32) {out : List ℕ} (room : 98 ≤ length out) {o : List ℕ} {i : ℕ} (w : Storing entries out o i) where
-  -- the words that are stored already
-  stored_long : length (entry_numbers (take i entries)) ≡ 3 * i
-  stored_long = entry_numbers_long (take i entries) ∙ ap (λ (n : ℕ). 3 * n) (length-take-le i entries (omega (arith, w.within)))
-
-  pub storing_turn : {at : ℕ} → i < 32 → at ≡ 3 * i → {o' : List ℕ}
-      → o' ≡ set (set (set o at (get_or entries i no_entry).kind) (at + 1) (get_or entries i no_entry).offset) (at + 2) (get_or entries i no_entry).register → Storing entries out o' (i + 1)
-  storing_turn {at} h f {o'} g =
-      let e : Entry = get_or entries i no_entry in
-      let n : length (drop (3 * i) out) ≡ length out - 3 * i = length-drop (3 * i) out in
-      let q : o' ≡ (entry_numbers (take i entries) ++ (e.kind ∷ e.offset ∷ e.register ∷ [])) ++ drop 3 (drop (3 * i) out) =
-      g ∙ rw (f, w.stored) (three_stores (entry_numbers (take i entries)) (drop (3 * i) out) (3 * i) e.kind e.offset e.register stored_long (omega arith)) in
-      let t : entry_numbers (take (i + 1) entries) ≡ entry_numbers (take i entries) ++ (e.kind ∷ e.offset ∷ e.register ∷ []) =
-      rw (add-one i, take-suc entries i no_entry (omega arith)) (numbers-append (take i entries) (e ∷ [])) in
-      let m : 3 * i + 3 ≡ 3 * (i + 1) = omega arith in
-      record {
-        within = omega arith;
-        same_length = ap length g ∙ rw (length-set, length-set, length-set) w.same_length;
-        stored = q ∙ rw (drop-drop 3 (3 * i) out, m, ← t) refl;
-      }
-
-  pub storing_ends : 32 ≤ i → o ≡ over (entry_numbers entries) out
-  storing_ends h =
-      let z : i ≡ 32 = omega (arith, w.within) in
-      let n : length (entry_numbers entries) ≡ 3 * i = omega (arith, entry_numbers_long entries) in
-      w.stored ∙ rw (n, take_all i entries (omega arith)) refl
+-- entry i stored after those before it
+pub storing_turn : (entries : List Entry) (out o : List ℕ) (i : ℕ) → 3 * length entries ≤ length out → i < length entries
+    → (length o ≡ length out) × (o ≡ entry_numbers (take i entries) ++ drop (3 * i) out)
+    → let e = get_or entries i no_entry in let o' = set (set (set o (3 * i) e.kind) (3 * i + 1) e.offset) (3 * i + 2) e.register in
+    (length o' ≡ length out) × (o' ≡ entry_numbers (take (i + 1) entries) ++ drop (3 * (i + 1)) out)
+storing_turn entries out o i room h w =
+    let e : Entry = get_or entries i no_entry in
+    let k : length (entry_numbers (take i entries)) ≡ 3 * i = entry_numbers_long (take i entries) ∙ ap (λ (n : ℕ). 3 * n) (length-take-le i entries (omega arith)) in
+    let n : length (drop (3 * i) out) ≡ length out - 3 * i = length-drop (3 * i) out in
+    let t : entry_numbers (take (i + 1) entries) ≡ entry_numbers (take i entries) ++ (e.kind ∷ e.offset ∷ e.register ∷ []) =
+    rw (add-one i, take-suc entries i no_entry h) (numbers-append (take i entries) (e ∷ [])) in
+    let m : 3 * i + 3 ≡ 3 * (i + 1) = omega arith in
+    let q : set (set (set o (3 * i) e.kind) (3 * i + 1) e.offset) (3 * i + 2) e.register ≡ (entry_numbers (take i entries) ++ (e.kind ∷ e.offset ∷ e.register ∷ [])) ++ drop 3 (drop (3 * i) out) =
+    rw w.1 (three_stores (entry_numbers (take i entries)) (drop (3 * i) out) (3 * i) e.kind e.offset e.register k (omega arith)) in
+    (rw (length-set, length-set, length-set) w.0, q ∙ rw (drop-drop 3 (3 * i) out, m, ← t) refl)
 
 -- ---- the count and the area after them
 

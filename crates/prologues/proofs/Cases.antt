@@ -12,7 +12,7 @@ use Rattle.frame.specs.declared.Request.{Request}
 use Rattle.frame.specs.Masks.{count_below}
 use Rattle.frame.specs.Frame.{refusal_of, general_at, locals_at, frame_of}
 use Rattle.frame.specs.Words.{collect, saves_of}
-use Rattle.prologues.specs.declared.Verdict.{Verdict}
+use Rattle.prologues.specs.Verdict.{Verdict}
 use Rattle.prologues.specs.Checking.{count, instructions, are_stores, is_opened, is_wrong, first_from, verdict_on, checked}
 use Rattle.prologues.specs.Prologues.{answer}
 

@@ -3,7 +3,7 @@
 use mathlib.Core.Path.{◌≡◌, refl, sym, ap, ◌∙◌}
 use mathlib.Core.Logic.{inl, inr}
 use mathlib.Core.List.{List, [], ◌∷◌, map}
-use mathlib.Core.Bool.{Bool, true, false, cond}
+use mathlib.Core.Bool.{cond}
 use Prim.Native.Nat.{ℕ, ◌+◌, ◌≤◌}
 use native.Mathlib.Omega.{arith}
 use native.Mathlib.Decide.{ℕ_discrete}
@@ -70,11 +70,7 @@ module _ (F : ℕ) (vs : List Save) (d : Sound F vs) where
 
 ours_length : (F : ℕ) (vs : List Save) → length (prologue_for F vs) ≤ 1 + length vs
 unfolding prologue_for
-ours_length F vs = by (eqb F 0)
-  where
-    by : (b : Bool) → length (cond b [] (lowering F ∷ map store_word vs)) ≤ 1 + length vs
-    by true = omega arith
-    by false = omega (arith, length-map vs store_word)
+ours_length F vs = grind (arith, length-map vs store_word)
 
 pub ours_short : (x : Device) (r : Request) → refusal_of x r ≡ 0 → length (bytes_of_words (prologue_words r)) ≤ code_most
 unfolding prologue_words

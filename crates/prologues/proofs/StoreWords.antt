@@ -1,10 +1,9 @@
 -- The words of stores and of the `addiu`: which they are not, and the offset in them.
 -- Assumes nothing.
 use mathlib.Core.Path.{◌≡◌}
-use mathlib.Core.Bool.{Bool, true, false, cond}
 use Prim.Native.Nat.{ℕ, ◌%◌, ◌^◌, ◌<◌, ◌≤◌}
 use native.Mathlib.Omega.{arith}
-use Rattle.frame.specs.Words.{Save, word_of, store_word, lowering}
+use Rattle.frame.specs.Words.{Save, store_word, lowering}
 
 -- `addiu` lies below all stores, and 00000000 below both
 pub addiu_nonzero : (F : ℕ) → lowering F ≡ 0 → ⊥
@@ -12,11 +11,7 @@ addiu_nonzero F e = omega arith
 
 module _ (v : Save) where
   store_high : 0xAFA00000 ≤ store_word v
-  store_high = by v.float
-    where
-      by : (b : Bool) → 0xAFA00000 ≤ word_of (cond b 0xE7A00000 0xAFA00000) v
-      by true = omega arith
-      by false = omega arith
+  store_high = grind arith
 
   pub store_nonzero : store_word v ≡ 0 → ⊥
   store_nonzero e = omega (arith, store_high)
@@ -26,8 +21,4 @@ module _ (v : Save) where
 
   -- the low half of a store's word is its offset
   pub store-offset : v.offset < 2 ^ 16 → store_word v % 65536 ≡ v.offset
-  store-offset h = by v.float
-    where
-      by : (b : Bool) → word_of (cond b 0xE7A00000 0xAFA00000) v % 65536 ≡ v.offset
-      by true = omega arith
-      by false = omega arith
+  store-offset h = grind arith

@@ -19,7 +19,7 @@ use Rattle.frame.proofs.Sound.{sound}
 use Rattle.frame.proofs.Prologue.{no_saves}
 use Rattle.frame.proofs.Theorem.{Enters, prologue_enters, enters_keeps}
 use Rattle.frame.proofs.WordsIn.{words_in_lem, prologue_small, length_bytes_of_words}
-use Rattle.prologues.specs.declared.Verdict.{Verdict}
+use Rattle.prologues.specs.Verdict.{Verdict}
 use Rattle.prologues.specs.Checking.{verdict_on, has_wrong_length, refused_with, judged, checked}
 use Rattle.prologues.specs.Prologues.{Among, IsPrologue, Names, LeavesAsOurs, WrongLength, Checks}
 use Rattle.prologues.proofs.Answers.{says_length, checked_refused, checked-length, checked-judged}

@@ -5,7 +5,7 @@ use Rattle.frame.specs.declared.Request.{Request}
 use Rattle.frame.specs.Frame.{refusal_of, frame_of}
 use Rattle.frame.specs.Words.{Save, saves_of, store_word, lowering}
 use Rattle.frame.specs.Keeping.{words_in}
-use Rattle.prologues.specs.declared.Verdict.{Verdict}
+use Rattle.prologues.specs.Verdict.{Verdict}
 
 -- How often a word stands among words.
 unfoldable pub count : ℕ → List ℕ → ℕ

@@ -8,7 +8,7 @@ use Rattle.frame.specs.declared.Request.{Request}
 use Rattle.frame.specs.Frame.{refusal_of, frame_of}
 use Rattle.frame.specs.Words.{Save, saves_of, store_word, lowering, prologue_words, epilogue_words}
 use Rattle.frame.specs.Keeping.{words_in, Ready, Entry, Keeps}
-use Rattle.prologues.specs.declared.Verdict.{Verdict}
+use Rattle.prologues.specs.Verdict.{Verdict}
 use Rattle.prologues.specs.Checking.{count, instructions}
 
 -- x is one of these.

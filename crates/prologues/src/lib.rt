@@ -1,12 +1,29 @@
-// Prologues that others send: the answer that the definitions in specs/ speak of. There is no code here.
+// Prologues that others send: what a check finds, in words and in numbers.
 #![tactic(auto)]
 
-// What a check answers: a refusal and its place, then 0; or 0, 0 and the verdict.
+ghost use Rattle.std.specs.Prelude.{◌≡◌};
+ghost use Rattle.prologues.specs.Verdict.{finding_number};
+
+// What a check finds in code of a right length.
 #[derive(Clone, Copy)]
-pub struct Verdict {
-    pub refusal: u32,
-    pub place: u32,
-    // 0: accepted; 255: another word, or the `addiu` not once and first; else the first register whose store is missing or doubled,
-    // a floating one as 32 plus its number
-    pub verdict: u32,
+pub enum Finding {
+    // a prologue for the request
+    Accepted,
+    // another word, or the `addiu` not once and first
+    OtherWord,
+    // the first register whose store is missing or doubled, a floating one as 32 plus its number
+    Register(u32),
+}
+
+impl Finding {
+    // The number that the paper gives.
+    pub fn number(self) -> u32
+        ensures { result ≡ finding_number self }
+    {
+        match self {
+            Finding::Accepted => 0,
+            Finding::OtherWord => 255,
+            Finding::Register(register) => register,
+        }
+    }
 }

@@ -1,15 +1,17 @@
 -- The stores of a request's saves by the numbers of their registers.
 -- Assumes nothing.
 use mathlib.Core.Path.{◌≡◌, refl, sym, ap, ◌∙◌}
-use mathlib.Core.Bool.{Bool, true, false, cond, not}
+use mathlib.Core.Bool.{Bool, true, false, not}
 use mathlib.Core.List.{map}
+use Rattle.std.specs.Prelude.{Option, Some, None}
+use Rattle.std.specs.Option.{option_eq}
 use Prim.Native.Nat.{ℕ, ◌+◌, ◌-◌, ◌*◌, ◌/◌, ◌%◌, ◌<◌, ◌≤◌}
 use native.Mathlib.Omega.{arith}
 use native.Mathlib.Decide.{ℕ_discrete, dec_lt}
 use lib.Dec.{eqb, ltb}
-use borrow.Author.Tests.{eq-eqb, ne_eqb, eqb-true, eqb-false, lt-ltb, le-ltb}
+use borrow.Author.Tests.{eq-eqb, ne_eqb, lt-ltb, le-ltb}
 use Rattle.frame.specs.declared.Request.{Request}
-use Rattle.frame.specs.declared.Layout.{Layout}
+use Rattle.frame.specs.declared.Frame.{Frame}
 use Rattle.frame.specs.Masks.{names, count_below}
 use Rattle.frame.specs.Frame.{floating_at, general_at, offset_of_register}
 use Rattle.frame.specs.Words.{Save, pair_at, register_at, pairs_of, registers_of, saves_of, store_word}
@@ -24,12 +26,7 @@ use Rattle.frame_code.specs.Areas.{Areas}
 use Rattle.prologues.specs.Checking.{count, number_of}
 use Rattle.prologues.specs.Prologues.{Among}
 use Rattle.prologues.proofs.Counting.{all_among, among_all, among_map, map_among, among_counted, counted_among}
-use Rattle.prologues.proofs.StoreWords.{store_nonzero}
-use Rattle.prologues_code.specs.Stores.{general_store, floating_store, store_of}
-
--- the number of the register that a store names, by the store's own bits: `sw` is below 0xE0000000, `swc1` is not
-abbrev register_in : ℕ → ℕ
-register_in w = cond (ltb w 0xE0000000) (w / 65536 % 32) (32 + w / 65536 % 32)
+use Rattle.prologues_code.specs.Stores.{general_store, floating_store, store_of, register_in}
 
 -- the five bits above the offset
 number_in : (op n o : ℕ) → op % 0x200000 ≡ 0 → n < 32 → o < 65536 → (op + 65536 * n + o) / 65536 % 32 ≡ n
@@ -47,34 +44,34 @@ module _ (r : Request) (k : ℕ) where
   unfolding store_of
   store_floating = let e : 32 + k - 32 ≡ k = omega arith in simp (le-ltb (32 + k) 32 (omega arith), e)
 
-  general_named : names r.general k ≡ true → general_store r k ≡ 0xAFA00000 + 65536 * k + offset_of_register r k
+  general_named : names r.general k ≡ true → general_store r k ≡ Some (0xAFA00000 + 65536 * k + offset_of_register r k)
   unfolding general_store
   general_named e = simp e
 
-  general_unnamed : names r.general k ≡ false → general_store r k ≡ 0
+  general_unnamed : names r.general k ≡ false → general_store r k ≡ None
   unfolding general_store
   general_unnamed e = simp e
 
-  floating_low : k < 20 → floating_store r k ≡ 0
+  floating_low : k < 20 → floating_store r k ≡ None
   unfolding floating_store
   floating_low h = simp (lt-ltb k 20 h)
 
   floating_named : (p : ℕ) → 20 ≤ k → (k - 20) / 2 ≡ p → names r.pairs p ≡ true
-      → floating_store r k ≡ 0xE7A00000 + 65536 * k + (offset_of_pair r p + 4 * (k % 2))
+      → floating_store r k ≡ Some (0xE7A00000 + 65536 * k + (offset_of_pair r p + 4 * (k % 2)))
   unfolding floating_store
   floating_named p h q e = simp (le-ltb k 20 h, q, e)
 
-  floating_unnamed : 20 ≤ k → names r.pairs ((k - 20) / 2) ≡ false → floating_store r k ≡ 0
+  floating_unnamed : 20 ≤ k → names r.pairs ((k - 20) / 2) ≡ false → floating_store r k ≡ None
   unfolding floating_store
   floating_unnamed h e = simp (le-ltb k 20 h, e)
 
 -- a save's store is the one of its register's number, and names that register; no save is of a register below `$16`
 pub record Listed (r : Request) (v : Save) : Type 0 where
   pub high : 16 ≤ number_of v
-  pub store : store_of r (number_of v) ≡ store_word v
+  pub store : store_of r (number_of v) ≡ Some (store_word v)
   pub register : register_in (store_word v) ≡ number_of v
 
-module _ {r : Request} {y : Layout} (a : Areas r y) where
+module _ {r : Request} {f : Frame} (a : Areas r f) where
   register_listed : (k : ℕ) → k < 32 → names r.general k ≡ true → All (Listed r) (register_at (general_at r) r.general k)
   register_listed k h e =
       let low = count_below_none r.general 16 (low_general (savable_masks r a.masks)) in
@@ -128,53 +125,55 @@ module _ {r : Request} {y : Layout} (a : Areas r y) where
 abbrev Gives : Type 0 → ℕ → ℕ → Save → Type 0
 Gives R k w v = number_of v ≡ k → store_word v ≡ w → R
 
+pub same_store : {v w : ℕ} {o : Option ℕ} → o ≡ Some v → o ≡ Some w → v ≡ w
+same_store p q = cc
+
+pub no_store : {R : Type 0} {w : ℕ} {o : Option ℕ} → o ≡ None → o ≡ Some w → R
+no_store p q = cc
+
 -- a store that a number has is that of a save: what follows from every save of that kind holds
 module _ (r : Request) {R : Type 0} where
-  general_save : (k : ℕ) → k < 32 → (general_store r k ≡ 0 → ⊥) → All (Gives R k (general_store r k)) (saves_of r) → R
-  general_save k h z each = by (names r.general k) refl
+  general_save : (k w : ℕ) → k < 32 → general_store r k ≡ Some w → All (Gives R k w) (saves_of r) → R
+  general_save k w h z each = by (names r.general k) refl
     where
       by : (b : Bool) → names r.general k ≡ b → R
-      by true e = (holds_of_register r (Gives R k (general_store r k)) each k h e).0 refl (sym (general_named r k e))
-      by false e = absurd (z (general_unnamed r k e))
+      by true e = (holds_of_register r (Gives R k w) each k h e).0 refl (same_store (general_named r k e) z)
+      by false e = no_store (general_unnamed r k e) z
 
-  floating_save : (n : ℕ) → n < 32 → (floating_store r n ≡ 0 → ⊥) → All (Gives R (32 + n) (floating_store r n)) (saves_of r) → R
-  floating_save n h z each = low (dec_lt n 20)
+  floating_save : (n w : ℕ) → n < 32 → floating_store r n ≡ Some w → All (Gives R (32 + n) w) (saves_of r) → R
+  floating_save n w h z each = low (dec_lt n 20)
     where
       half : 20 ≤ n → names r.pairs ((n - 20) / 2) ≡ true → Dec (n % 2 ≡ 0) → R
       half l e (yes q) =
-          (holds_of_pair r (Gives R (32 + n) (floating_store r n)) each ((n - 20) / 2) (omega arith) e).0 (omega arith) (omega (arith, floating_named r n _ l refl e))
+          (holds_of_pair r (Gives R (32 + n) w) each ((n - 20) / 2) (omega arith) e).0 (omega arith) (omega (arith, same_store (floating_named r n _ l refl e) z))
       half l e (no q) =
-          (holds_of_pair r (Gives R (32 + n) (floating_store r n)) each ((n - 20) / 2) (omega arith) e).1.0 (omega arith) (omega (arith, floating_named r n _ l refl e))
+          (holds_of_pair r (Gives R (32 + n) w) each ((n - 20) / 2) (omega arith) e).1.0 (omega arith) (omega (arith, same_store (floating_named r n _ l refl e) z))
 
       by : 20 ≤ n → (b : Bool) → names r.pairs ((n - 20) / 2) ≡ b → R
       by l true e = half l e (ℕ_discrete (n % 2) 0)
-      by l false e = absurd (z (floating_unnamed r n l e))
+      by l false e = no_store (floating_unnamed r n l e) z
 
       low : Dec (n < 20) → R
-      low (yes l) = absurd (z (floating_low r n l))
+      low (yes l) = no_store (floating_low r n l) z
       low (no l) = by (omega arith) (names r.pairs ((n - 20) / 2)) refl
 
-  from_some : (k : ℕ) → k < 64 → (store_of r k ≡ 0 → ⊥) → All (Gives R k (store_of r k)) (saves_of r) → R
-  from_some k h = by (dec_lt k 32)
+  from_some : (k w : ℕ) → k < 64 → store_of r k ≡ Some w → All (Gives R k w) (saves_of r) → R
+  from_some k w h z = by (dec_lt k 32)
     where
-      by : Dec (k < 32) → (store_of r k ≡ 0 → ⊥) → All (Gives R k (store_of r k)) (saves_of r) → R
-      by (yes l) = rw (store_general r k l) (general_save k l)
+      by : Dec (k < 32) → All (Gives R k w) (saves_of r) → R
+      by (yes l) = general_save k w l (sym (store_general r k l) ∙ z)
       by (no l) =
           let q : 32 + (k - 32) ≡ k = omega arith in
-          rw (rw q at (store_floating r (k - 32))) (rw q at (floating_save (k - 32) (omega arith)))
+          rw q at (floating_save (k - 32) w (omega arith) (sym (store_floating r (k - 32)) ∙ ap (store_of r) q ∙ z))
 
-  pub some_save : (k : ℕ) → k < 64 → (store_of r k ≡ 0 → ⊥) → ((v : Save) → Among v (saves_of r) → Gives R k (store_of r k) v) → R
-  some_save k h z each = from_some k h z (among_all (Gives R k (store_of r k)) (saves_of r) each)
+  pub some_save : (k w : ℕ) → k < 64 → store_of r k ≡ Some w → ((v : Save) → Among v (saves_of r) → Gives R k w v) → R
+  some_save k w h z each = from_some k w h z (among_all (Gives R k w) (saves_of r) each)
 
-register_small : (w : ℕ) → register_in w < 64
-register_small w = by (ltb w 0xE0000000)
-  where
-    by : (b : Bool) → cond b (w / 65536 % 32) (32 + w / 65536 % 32) < 64
-    by true = omega arith
-    by false = omega arith
+pub register_small : (w : ℕ) → register_in w < 64
+register_small w = grind arith
 
 -- whether a word is a store of the request
-abbrev is_one_of : Request → ℕ → Bool
+abbrev pub is_one_of : Request → ℕ → Bool
 is_one_of r w = not (eqb (count w (map store_word (saves_of r))) 0)
 
 module _ (r : Request) where
@@ -190,22 +189,18 @@ module _ (r : Request) where
       by (yes z) = simp (eq-eqb _ 0 z)
       by (no n) = let v = map_among store_word w (saves_of r) (counted_among w (map store_word (saves_of r)) (omega arith)) in absurd (h v.0 v.1 v.2)
 
-  pub zero-none : is_one_of r 0 ≡ false
-  zero-none = not_one 0 (λ v i e. store_nonzero v (sym e))
-
-module _ {r : Request} {y : Layout} (a : Areas r y) where
-  -- a word is one just where it is that of the register which it names
-  one_named : (w : ℕ) → (w ≡ 0 → ⊥) → eqb w (store_of r (register_in w)) ≡ is_one_of r w
-  one_named w z = by (eqb w (store_of r (register_in w))) refl
+-- a word is one just where it is that of the register which it names
+module _ {r : Request} {f : Frame} (a : Areas r f) (w : ℕ) where
+  pub named-one : option_eq eqb (store_of r (register_in w)) (Some w) ≡ is_one_of r w
+  named-one = by (store_of r (register_in w)) refl
     where
-      by : (b : Bool) → eqb w (store_of r (register_in w)) ≡ b → b ≡ is_one_of r w
-      by true t =
-          let e = eqb-true w (store_of r (register_in w)) t in
-          sym (some_save r (register_in w) (register_small w) (λ q. z (e ∙ q)) (λ v i _ q. rw (q ∙ sym e) at (is_one r v i)))
-      by false t = sym (not_one r w (λ v i q. let h = saves_listed a v i in eqb-false w (store_of r (register_in w)) t (q ∙ sym h.store ∙ ap (store_of r) (sym h.register ∙ ap register_in (sym q)))))
+      none : (store_of r (register_in w) ≡ Some w → ⊥) → is_one_of r w ≡ false
+      none n = not_one r w (λ v i q. let h = saves_listed a v i in n (ap (λ (x : ℕ). store_of r (register_in x)) q ∙ ap (store_of r) h.register ∙ h.store ∙ ap Some (sym q)))
 
-  pub one_general : (w : ℕ) → (w ≡ 0 → ⊥) → w < 0xE0000000 → eqb w (general_store r (w / 65536 % 32)) ≡ is_one_of r w
-  one_general w z h = rw (← store_general r (w / 65536 % 32) (omega arith)) (simp (lt-ltb w 0xE0000000 h) at (one_named w z))
+      at : (v : ℕ) → store_of r (register_in w) ≡ Some v → Dec (v ≡ w) → eqb v w ≡ is_one_of r w
+      at v e (yes q) = eq-eqb v w q ∙ sym (some_save r (register_in w) v (register_small w) e (λ u i _ p. rw (p ∙ q) at (is_one r u i)))
+      at v e (no n) = ne_eqb v w n ∙ sym (none (λ q. n (same_store e q)))
 
-  pub one_floating : (w : ℕ) → (w ≡ 0 → ⊥) → 0xE0000000 ≤ w → eqb w (floating_store r (w / 65536 % 32)) ≡ is_one_of r w
-  one_floating w z h = rw (← store_floating r (w / 65536 % 32)) (simp (le-ltb w 0xE0000000 h) at (one_named w z))
+      by : (o : Option ℕ) → store_of r (register_in w) ≡ o → option_eq eqb o (Some w) ≡ is_one_of r w
+      by None e = sym (none (λ q. no_store e q))
+      by (Some v) e = at v e (ℕ_discrete v w)

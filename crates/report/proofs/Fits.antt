@@ -1,23 +1,27 @@
 -- Every image fits in 1,056 bytes and every text in 2,376; and which text a writer's answer stands for.
 -- Assumes nothing.
 use mathlib.Core.Path.{◌≡◌, refl, sym, ap, ◌∙◌, subst}
-use mathlib.Core.List.{List, ◌++◌}
+use mathlib.Core.List.{List}
 use mathlib.Core.Bool.{true, false}
 use Prim.Native.Nat.{ℕ, ◌/◌, ◌≤◌}
 use native.Mathlib.Omega.{arith}
-use lib.ListN.{length, take, drop, length-append}
-use lib.Seq.{take-append_seam, length-take-le}
+use lib.ListN.{length, take}
+use lib.Seq.{take-append_seam}
 use lib.Dec.{ltb}
 use borrow.Author.Tests.{le-ltb}
-use Rattle.io.specs.Counts.{IsPrefixLen}
 use Rattle.carried.specs.Convention.{Scan, stopped, complete, scan, write_scan, write, write_into}
 use Rattle.carried.proofs.Buffers.{write_roomy}
 use Rattle.carried.proofs.Readings.{image-length}
 use Rattle.device.specs.declared.Device.TheVariants.{Fpu}
 use Rattle.o32.specs.declared.State.{State}
 use Rattle.o32.specs.O32.{O32, area, image_size}
+use Rattle.std.specs.Prelude.{Result, Ok, Err, Option, Some, unwrap_or}
+use Rattle.std.specs.Option.{IsSome}
+use Rattle.answers.specs.declared.Refusal.{Refusal}
+use Rattle.answers.specs.Numbers.{number}
+use Rattle.answers.proofs.Numbers.{number_positive}
 use Rattle.answers.specs.declared.Answer.{Answer}
-use Rattle.answers.specs.Outcomes.{Outcome, done, refused, answer_of, buffer_of}
+use Rattle.answers.specs.Outcomes.{Outcome, done, refused, answer_of, buffer_of, in_numbers, over}
 use Rattle.o32_laws.proofs.Bounds.{refusal_bound, scan_bound}
 use Rattle.o32_laws.proofs.Refusing.{by_record, refused_exactly}
 use Rattle.text.specs.Text.{stored_length, stored, image_text, refusal_text}
@@ -53,44 +57,49 @@ text_fits (refused r place j) h = omega (arith, refusal_at-most_83 r place j (om
 pub report_fits : (list : List ℕ) → length (report_text list) ≤ 2376
 report_fits list = text_fits (write (O32 Fpu) list) (bounded list)
 
--- what lies at the start of a buffer is counted by its length
-length_counts : (text rest : List ℕ) → IsPrefixLen (length text) (text ++ rest)
-length_counts text rest = let h : length text ≤ length (text ++ rest) = omega (arith, length-append text rest) in (h, sym (length-take-le (length text) (text ++ rest) h))
+-- a text that is this report is put whole into a buffer of 2,376 bytes, and its length is answered
+module _ (list text out : List ℕ) (room : length out ≡ 2376) (answer : report_text list ≡ text) where
+  fits : ltb (length out) (length text) ≡ false
+  fits = le-ltb (length out) (length text) (omega (arith, report_fits list, ap length answer))
 
--- a text that is this report is put whole into a buffer of 2,376 bytes
-pub report_stored : (list text out : List ℕ) {r : ℕ} {exit : List ℕ} → length out ≡ 2376 → report_text list ≡ text → r ≡ stored_length text (length out) → exit ≡ stored text out
-    → IsPrefixLen r exit × ((r ≡ length (report_text list)) × (exit ≡ report_text list ++ drop (length (report_text list)) out))
-report_stored list text out room e answer buffer =
-    let k : ltb (length out) (length text) ≡ false = le-ltb (length out) (length text) (omega (arith, report_fits list, ap length e)) in
-    rw (answer, buffer, e, k) (length_counts text (drop (length text) out), (refl, refl))
+  pub report_stored : {exit : List ℕ} → exit ≡ stored text out → exit ≡ over (report_text list) out
+  report_stored e = e ∙ rw (fits, answer) refl
+
+  module _ {o : Option ℕ} (e : o ≡ stored_length text (length out)) where
+    whole_length : o ≡ Some (length (report_text list))
+    whole_length = e ∙ rw (fits, answer) refl
+
+    pub report_answered : IsSome o
+    report_answered = rw whole_length refl
+
+    pub report_length : {n : ℕ} → o ≡ Some n → n ≡ length (report_text list)
+    report_length h = ap (λ (a : Option ℕ). unwrap_or a 0) (sym h ∙ whole_length)
 
 -- ---- the writer's answer, with a buffer of 1,056 bytes
 
-module _ (list : List ℕ) (a : Answer) (e : a ≡ answer_of (write_into (O32 Fpu) list 1056)) where
+module _ (list : List ℕ) (r : Result ℕ Refusal) (e : in_numbers r ≡ answer_of (write_into (O32 Fpu) list 1056)) where
   unshortened : write_into (O32 Fpu) list 1056 ≡ write (O32 Fpu) list
   unshortened = write_roomy (O32 Fpu) list 1056 (λ x h. subst Bounded h (bounded list))
 
-  answered : a ≡ answer_of (write (O32 Fpu) list)
-  answered = e ∙ ap answer_of unshortened
+  answered : {a : Result ℕ Refusal} → r ≡ a → in_numbers a ≡ answer_of (write (O32 Fpu) list)
+  answered h = ap in_numbers (sym h) ∙ e ∙ ap answer_of unshortened
 
-  -- an image lies within the buffer
-  pub image_inside : a.length ≤ 1056
-  image_inside = go (write (O32 Fpu) list) (bounded list) answered
+  pub refusal_reported : {a : Refusal} {n : ℕ} → r ≡ Err a → n ≡ number a.cause → report_text list ≡ refusal_text n a.place a.argument
+  refusal_reported {a} {n} h c = go (write (O32 Fpu) list) (bounded list) (answered h)
     where
-      go : (x : Outcome) → Bounded x → a ≡ answer_of x → a.length ≤ 1056
-      go (refused r place j) b f = rw f (omega arith)
-      go (done x) b f = rw f b
+      go : (x : Outcome) → Bounded x → in_numbers (Err a) ≡ answer_of x → text_of x ≡ refusal_text n a.place a.argument
+      go (refused k place j) b f =
+          let p : k ≡ n = ap (λ (y : Answer). y.refusal) (sym f) ∙ sym c in
+          let q : place ≡ a.place = ap (λ (y : Answer). y.place) (sym f) in
+          let s : j ≡ a.argument = ap (λ (y : Answer). y.argument) (sym f) in
+          rw (p, q, s) refl
+      go (done x) b f = absurd (omega (arith, number_positive a.cause, ap (λ (y : Answer). y.refusal) f))
 
-  pub refusal_reported : (a.refusal ≡ 0 → ⊥) → report_text list ≡ refusal_text a.refusal a.place a.argument
-  refusal_reported h = go (write (O32 Fpu) list) (bounded list) answered
+  pub image_reported : (out : List ℕ) {exit : List ℕ} {n : ℕ} → exit ≡ buffer_of (write_into (O32 Fpu) list 1056) out → r ≡ Ok n → report_text list ≡ image_text (take n exit)
+  image_reported out {exit} {n} g h = go (write (O32 Fpu) list) (bounded list) (answered h) (g ∙ ap (λ (x : Outcome). buffer_of x out) unshortened)
     where
-      go : (x : Outcome) → Bounded x → a ≡ answer_of x → text_of x ≡ refusal_text a.refusal a.place a.argument
-      go (refused r place j) b f = rw f
-      go (done x) b f = absurd (h (rw f))
-
-  pub image_reported : (out : List ℕ) {exit : List ℕ} → exit ≡ buffer_of (write_into (O32 Fpu) list 1056) out → a.refusal ≡ 0 → report_text list ≡ image_text (take a.length exit)
-  image_reported out {exit} g h = go (write (O32 Fpu) list) (bounded list) answered (g ∙ ap (λ (x : Outcome). buffer_of x out) unshortened)
-    where
-      go : (x : Outcome) → Bounded x → a ≡ answer_of x → exit ≡ buffer_of x out → text_of x ≡ image_text (take a.length exit)
-      go (refused r place j) b f i = absurd (omega (arith, ap (λ (y : Answer). y.refusal) f))
-      go (done x) b f i = rw (f, i, take-append_seam)
+      go : (x : Outcome) → Bounded x → in_numbers (Ok n) ≡ answer_of x → exit ≡ buffer_of x out → text_of x ≡ image_text (take n exit)
+      go (refused k place j) b f i = absurd (omega (arith, b, ap (λ (y : Answer). y.refusal) f))
+      go (done x) b f i =
+          let l : n ≡ length x = ap (λ (y : Answer). y.length) f in
+          rw (l, i, take-append_seam)

@@ -17,10 +17,8 @@ pub fn report_text(list: &[u8], out: &mut [u8; 2376]) -> usize
 {
     let mut image = [0u8; 1056];
     let answer = plans_writer::write_by_plan(Device::Fpu, list, &mut image);
-    let number = answer.refusal;
-    if number != 0 {
-        return text::refusal_text(number, answer.place, answer.argument, out);
+    match answer {
+        Ok(length) => text::image_text(&image[..length], out).unwrap(),
+        Err(r) => text::refusal_text(r.cause.number(), r.place, r.argument, out).unwrap(),
     }
-    let length = answer.length;
-    text::image_text(&image[..length], out)
 }

@@ -1,2 +1,1 @@
-pub mod Returns
 pub mod Cases

@@ -3,9 +3,9 @@
 use mathlib.Core.Path.{◌≡◌}
 use mathlib.Core.Bool.{Bool, true, false, cond}
 use mathlib.Core.List.{[], ◌∷◌, ◌++◌}
-use Prim.Native.Nat.{ℕ, zero, suc, ◌+◌, ◌-◌, ◌*◌, ◌/◌, ◌%◌, ◌^◌, ◌≤◌, ◌<◌}
+use Prim.Native.Nat.{ℕ, zero, suc, ◌+◌, ◌*◌, ◌/◌, ◌%◌, ◌^◌, ◌≤◌, ◌<◌}
 use native.Mathlib.Omega.{arith}
-use native.Mathlib.Nat.{pow-suc, pow-le-pow_right, lt_of_not-le, le_of_suc-le-suc}
+use native.Mathlib.Nat.{pow-suc, pow-le-pow_right}
 use native.Mathlib.Numerals.{sub-one}
 use lib.Dec.{ltb}
 use lib.ListN.{length, length-append}
@@ -45,13 +45,6 @@ pub fewest_decimal : (n k : ℕ) → IsDigitCount 10 1 n k → D.last_digits 10 
 unfolding decimal
 fewest_decimal n zero h = absurd (omega arith)
 fewest_decimal n (suc r) h = fewest_digits r (suc n) n h.1 (λ p. rw sub-one at (h.2 (omega arith))) (omega arith)
-
--- A number of 64 bits has at most 20 digits: 21 digits start at 10 ^ 20.
-pub digits-at-most_20 : (n k : ℕ) → n < 2 ^ 64 → IsDigitCount 10 1 n k → k ≤ 20
-digits-at-most_20 n k h f = le_of_suc-le-suc (lt_of_not-le (λ p.
-    let big : 10 ^ 20 ≤ 10 ^ (k - 1) = pow-le-pow_right {n = 10} (omega arith) {i = 20} {j = k - 1} (omega arith) in
-    let low : 10 ^ (k - 1) ≤ n = f.2 (omega arith) in
-    omega arith))
 
 -- The same of its text: below 10 ^ k there are at most k digits.
 digits-at-most : (k most n : ℕ) → n < 10 ^ suc k → length (digits most n) ≤ suc k

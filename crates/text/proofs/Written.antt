@@ -8,6 +8,7 @@ use native.Mathlib.Omega.{arith}
 use lib.ListN.{length, take, drop, length-append}
 use lib.Seq.{paste, take-paste, take-append_seam, take-length, drop-append-add, drop-drop}
 use borrow.Author.Tests.{lt-ltb, le-ltb}
+use Rattle.std.specs.Prelude.{Some, None}
 use Rattle.text.specs.Text.{lines, line_at, stored_length, stored}
 
 -- A buffer with a text over its start.
@@ -35,9 +36,9 @@ lines-length image zero = refl
 lines-length image (suc n) = omega (arith, length-append (lines image n) (line_at image (4 * n)), lines-length image n)
 
 -- What the contracts say of a text that does not fit, and of one that does.
-pub short_stored : (text out : List ℕ) → length out < length text → (0 ≡ stored_length text (length out)) × (out ≡ stored text out)
+pub short_stored : (text out : List ℕ) → length out < length text → (None ≡ stored_length text (length out)) × (out ≡ stored text out)
 short_stored text out h = let e = lt-ltb (length out) (length text) h in (simp e, simp e)
 
 pub fitting_stored : (text out : List ℕ) {r : ℕ} {now : List ℕ} → length text ≤ length out → r ≡ length text → now ≡ overlay text out
-    → (r ≡ stored_length text (length out)) × (now ≡ stored text out)
-fitting_stored text out h n held = let e = le-ltb (length out) (length text) h in (simp e n, simp e held)
+    → (Some r ≡ stored_length text (length out)) × (now ≡ stored text out)
+fitting_stored text out h n held = let e = le-ltb (length out) (length text) h in (simp e (ap Some n), simp e held)

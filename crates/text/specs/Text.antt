@@ -1,5 +1,5 @@
 -- What the program prints: an image as hex words, a refusal as a line.
-use Rattle.std.specs.Prelude.{List, [], ◌∷◌, ◌++◌, cond, ℕ, zero, suc, ◌+◌, ◌*◌, ◌/◌, ◌%◌, length, get_or, ltb}
+use Rattle.std.specs.Prelude.{List, [], ◌∷◌, ◌++◌, cond, ℕ, zero, suc, ◌+◌, ◌*◌, ◌/◌, ◌%◌, length, get_or, ltb, Option, Some, None}
 use Rattle.answers.specs.Outcomes.{over}
 
 -- A digit below 16 as a character: 0 to 9, then A to F.
@@ -50,9 +50,9 @@ abbrev pub refusal_text : ℕ → ℕ → ℕ → List ℕ
 refusal_text number place argument =
     refused_word ++ decimal number ++ at_word ++ decimal place ++ argument_word ++ decimal argument ++ (10 ∷ [])
 
--- How many bytes of a text a buffer of so many bytes takes: all, or none where it does not fit.
-abbrev pub stored_length : List ℕ → ℕ → ℕ
-stored_length text room = cond (ltb room (length text)) 0 (length text)
+-- What is answered for a text and a buffer of so many bytes: its length, or nothing where it does not fit.
+abbrev pub stored_length : List ℕ → ℕ → Option ℕ
+stored_length text room = cond (ltb room (length text)) None (Some (length text))
 
 -- A buffer with a text at its start, and as it was where the text does not fit.
 abbrev pub stored : List ℕ → List ℕ → List ℕ

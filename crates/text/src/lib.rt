@@ -13,7 +13,7 @@ fn hex_digit(d: u8) -> u8
     if d < 10 { 48 + d } else { 55 + d }
 }
 
-// The higher hex digit of a byte.
+// The higher hex digit of a byte. (One function for both digits would be passed a divisor and be no plainer.)
 pub fn high_digit(b: u8) -> u8
     ensures { result ≡ hex_digit (b / 16) }
 {
@@ -27,18 +27,16 @@ pub fn low_digit(b: u8) -> u8
     hex_digit(b % 16)
 }
 
-// A text into a buffer from a place on; the place after it.
+// A text into a buffer from a place on; the place after it. (A `Display` would need a writer into a lent slice besides, and a struct with
+// the buffer in it would be taken apart at each text.)
 pub fn put(text: &[u8], out: &mut [u8], at: usize) -> usize
     requires { at + length text.now ≤ length out.old }
     ensures value { result ≡ at + length text.now }
     ensures out_after { out.new ≡ paste out.old at text.now (length text.now) }
 {
-    let mut i = 0;
-    while i < text.len() {
-        out[at + i] = text[i];
-        i += 1;
-    }
-    at + i
+    let end = at + text.len();
+    out[at..end].copy_from_slice(text);
+    end
 }
 
 // The line of the word that starts at a byte of an image: eight hex digits and a newline.
@@ -63,22 +61,20 @@ fn line(image: &[u8], at: usize) -> [u8; 9]
     ]
 }
 
-// Each whole word of an image as a line, at the start of a buffer; its length, or 0 where the buffer is too short.
-pub fn image_text(image: &[u8], out: &mut [u8]) -> usize
+// Each whole word of an image as a line, at the start of a buffer; their length, or `None` where the buffer is too short.
+pub fn image_text(image: &[u8], out: &mut [u8]) -> Option<usize>
     ensures value { result ≡ stored_length (image_text image.now) (length out.old) }
     ensures out_after { out.new ≡ stored (image_text image.now) out.old }
 {
     let words = image.len() / 4;
     if out.len() / 9 < words {
-        return 0;
+        return None;
     }
-    let mut i = 0;
-    while i < words {
+    for i in 0..words {
         let text = line(image, 4 * i);
         put(&text, out, 9 * i);
-        i += 1;
     }
-    9 * words
+    Some(9 * words)
 }
 
 // A text and after it a number in decimal, of at most 20 digits, into a buffer from a place on; the place after them.
@@ -93,7 +89,7 @@ pub fn put_number(text: &[u8], number: u64, out: &mut [u8], at: usize) -> usize
     put(&digits[..n], out, next)
 }
 
-// "refused N at P argument K" and a newline, at the start of a buffer; its length, at most 23 bytes and three numbers of 20 digits.
+// "refused N at P argument K", for any number N, and a newline, at the start of a buffer; its length, at most 23 bytes and three numbers of 20 digits.
 pub fn put_refusal(number: u32, place: usize, argument: usize, out: &mut [u8]) -> usize
     requires { 83 ≤ length out.old }
     ensures upper_bound { result ≤ 83 }
@@ -105,8 +101,8 @@ pub fn put_refusal(number: u32, place: usize, argument: usize, out: &mut [u8]) -
     put(b"\n", out, end)
 }
 
-// The same line; its length, or 0 where the buffer is too short.
-pub fn refusal_text(number: u32, place: usize, argument: usize, out: &mut [u8]) -> usize
+// The same line; its length, or `None` where the buffer is too short.
+pub fn refusal_text(number: u32, place: usize, argument: usize, out: &mut [u8]) -> Option<usize>
     ensures value { result ≡ stored_length (refusal_text number place argument) (length out.old) }
     ensures out_after { out.new ≡ stored (refusal_text number place argument) out.old }
 {
@@ -114,7 +110,7 @@ pub fn refusal_text(number: u32, place: usize, argument: usize, out: &mut [u8]) 
     let mut line = [0u8; 83];
     let n = put_refusal(number, place, argument, &mut line);
     if out.len() < n {
-        return 0;
+        return None;
     }
-    put(&line[..n], out, 0)
+    Some(put(&line[..n], out, 0))
 }

@@ -6,16 +6,18 @@ use mathlib.Core.Bool.{Bool, true, false, cond}
 use Prim.Native.Nat.{ℕ, ◌+◌, ◌-◌, ◌≤◌}
 use native.Mathlib.Omega.{arith}
 use lib.ListN.{length, drop, length-append}
-use lib.Seq.{drop_at}
+use lib.ListN.{take, length-drop}
+use lib.Seq.{drop_at, take-length}
 use Rattle.device.specs.declared.Device.{Device}
-use Rattle.answers.specs.declared.Answer.{Answer}
-use Rattle.answers.specs.Outcomes.{done, answer_of}
 use Rattle.o32_offsets.specs.Offsets.{lay}
 use Rattle.carried.specs.Convention.{scan}
+use Rattle.std.specs.Prelude.{Result, Ok, Err, Option, Some, None}
+use Rattle.answers.specs.declared.Refusal.{Refusal}
+use Rattle.answers.specs.declared.Cause.TheVariants as C
 use Rattle.passes.specs.declared.Measured.{Measured}
-use Rattle.passes.specs.declared.Measured.TheVariants as M
-use Rattle.passes.specs.Passes.{measured, outcome}
-use Rattle.passes.proofs.Answers.{Right, Lengths, was_refused, refused_right, Delivers}
+use Rattle.passes.specs.Found.{found}
+use Rattle.passes.specs.Passes.{measured}
+use Rattle.passes.proofs.Answers.{Right, Lengths, was_refused, was_accepted, refused_right, Delivers}
 use Rattle.o32.specs.O32.{O32, end_most}
 use Rattle.o32_laws.proofs.Bounds.{scan_bound}
 use Rattle.varargs.specs.Walking.{spilled, walk_from, before, after, walked, marked, walk_into}
@@ -23,7 +25,6 @@ use Rattle.varargs.specs.Varargs.{body_bytes}
 use Rattle.varargs.proofs.Bodies.{walked_long, bodies_most}
 use Rattle.varargs.proofs.Marker.{around}
 use Rattle.varargs_code.specs.declared.Start.{Start}
-use Rattle.varargs_code.specs.declared.Start.TheVariants as S
 use Rattle.varargs_code.specs.Starts.{start_of, Within}
 use Rattle.varargs_code.proofs.Area.{signature-before, signature-after}
 
@@ -41,65 +42,77 @@ record Started (sig : List ℕ) (place pointer : ℕ) : Type 0 where
   found : marked sig ≡ true
   from : drop place sig ≡ after false sig
   at : pointer ≡ (lay 0 (before sig)).end
+  inside : place ≤ length sig
 
-abbrev Starting : List ℕ → Start → Type 0
-Starting sig S.Unmarked = marked sig ≡ false
-Starting sig (S.Marked place pointer) = Started sig place pointer
+abbrev Starting : List ℕ → Option Start → Type 0
+Starting sig None = marked sig ≡ false
+Starting sig (Some s) = Started sig s.place s.pointer
 
 starting : (sig : List ℕ) → Starting sig (start_of sig)
 starting sig = go (marked sig) refl
   where
-    go : (t : Bool) → marked sig ≡ t → Starting sig (cond t (S.Marked (length (before sig) + 1) (lay 0 (before sig)).end) S.Unmarked)
-    go true m = record { found = m; from = drop-before sig m; at = refl }
+    go : (t : Bool) → marked sig ≡ t → Starting sig (cond t (Some (record { place = length (before sig) + 1; pointer = (lay 0 (before sig)).end })) None)
+    go true m =
+        let w = around sig m in
+        let l : length (before sig ++ (w.marker ∷ after false sig)) ≡ length sig = ap length w.whole in
+        record { found = m; from = drop-before sig m; at = refl; inside = omega (arith, l, length-append (before sig) (w.marker ∷ after false sig)) }
     go false m = m
 
-started_as : (sig : List ℕ) {q r : Start} → q ≡ start_of sig → q ≡ r → Starting sig r
+started_as : (sig : List ℕ) {q r : Option Start} → q ≡ start_of sig → q ≡ r → Starting sig r
 started_as sig e f = subst (Starting sig) (sym e ∙ f) (starting sig)
 
 -- ---- what is answered
 
 module _ (d : Device) (sig img out : List ℕ) where
-  pub walk_refused : {m : Measured} {r p j : ℕ} {a : Answer} → m ≡ measured (O32 d) (scan (O32 d) false sig) → m ≡ M.Refused r p j → a ≡ answer_of (outcome m (done []))
-      → Right (walk_into d sig img (length out)) out a out
-  walk_refused e g i = refused_right out (rw (was_refused (O32 d) false sig e g)) g i
+  pub walk_refused : {m : Result Measured Refusal} {e : Refusal} → found m ≡ measured (O32 d) (scan (O32 d) false sig) → m ≡ Err e
+      → Right (walk_into d sig img (length out)) out (Err e) out
+  walk_refused i g = refused_right out (rw (was_refused (O32 d) false sig i g))
 
-  module _ {l m : ℕ} (found : Lengths (O32 d) false sig l m) where
-    fits : found.admitted.last.end ≤ end_most
-    fits = (scan_bound d false sig found.admitted.placed found.admitted.last found.admitted.scanned).fits
+  module _ {q : Result Measured Refusal} {v : Measured} (e : (d : Device) → found q ≡ measured (O32 d) (scan (O32 d) false sig)) (f : q ≡ Ok v) where
+    abbrev lengths : Lengths (O32 d) false sig v.length v.image
+    lengths = was_accepted (O32 d) false sig (e d) f
+
+    fits : lengths.admitted.last.end ≤ end_most
+    fits = (scan_bound d false sig lengths.admitted.placed lengths.admitted.last lengths.admitted.scanned).fits
 
     pub walk_before : Within end_most 0 (before sig)
-    walk_before = signature-before d sig found.admitted.scanned fits
+    walk_before = signature-before d sig lengths.admitted.scanned fits
 
-    pub walk-unmarked : {q : Start} → q ≡ start_of sig → q ≡ S.Unmarked
-        → Right (walk_into d sig img (length out)) out (record { refusal = 15; place = 0; argument = 0; length = 0 }) out
-    walk-unmarked e f =
-        let u : marked sig ≡ false = started_as sig e f in
-        record { answer = rw (found.admitted.scanned, u); buffer = rw (found.admitted.scanned, u) }
+    module _ {s : Option Start} {t : Start} (g : s ≡ start_of sig) (h : s ≡ Some t) where
+      start : Started sig t.place t.pointer
+      start = started_as sig g h
 
-    module _ {q : Start} {place pointer : ℕ} (e : q ≡ start_of sig) (f : q ≡ S.Marked place pointer) where
-      start : Started sig place pointer
-      start = started_as sig e f
+      -- the kinds after the marker, as the slice has them
+      abbrev kinds : List ℕ
+      kinds = take (length sig - t.place) (drop t.place sig)
+
+      kinds_are : kinds ≡ after false sig
+      kinds_are = ap (λ (n : ℕ). take n (drop t.place sig)) (sym (length-drop t.place sig)) ∙ take-length (drop t.place sig) ∙ start.from
 
       abbrev bodies : List ℕ
-      bodies = walk_from (spilled img) pointer (drop place sig)
+      bodies = walk_from (spilled img) t.pointer kinds
 
       bodies_are : bodies ≡ walked sig img
-      bodies_are = ap₂ (walk_from (spilled img)) start.at start.from
+      bodies_are = ap₂ (walk_from (spilled img)) start.at kinds_are
 
-      pub walk_bytes : body_bytes (drop place sig) ≤ end_most
-      walk_bytes = rw start.from (omega (arith, bodies_most d sig found.admitted.scanned start.found))
+      pub walk_bytes : body_bytes kinds ≤ end_most
+      walk_bytes = rw kinds_are (omega (arith, bodies_most d sig lengths.admitted.scanned start.found))
 
-      pub walk_delivers : Delivers (O32 d) sig img out (walk_from (spilled img) pointer (drop place sig)) (body_bytes (drop place sig)) m (walk_into d sig img (length out))
+      pub walk_delivers : Delivers (O32 d) sig img out bodies (body_bytes kinds) v.image (walk_into d sig img (length out))
       walk_delivers = record {
-        admitted = found.admitted;
-        long = λ h. ap length bodies_are ∙ walked_long d sig found.admitted.scanned start.found img (h ∙ found.admitted.whole) ∙ ap body_bytes (sym start.from);
-        is = rw (found.admitted.scanned, start.found, bodies_are) refl;
+        admitted = lengths.admitted;
+        long = λ i. ap length bodies_are ∙ walked_long d sig lengths.admitted.scanned start.found img (i ∙ lengths.admitted.whole) ∙ ap body_bytes (sym kinds_are);
+        is = rw (lengths.admitted.scanned, start.found, bodies_are) refl;
       }
 
+      -- the marker is in the signature
+      pub walk_inside : t.place ≤ length sig
+      walk_inside = start.inside
+
       -- the walk stays in the area
-      pub walk-area : length img ≡ m → ((48 ≤ length img) × (length img ≤ 1056)) × Within (length img - 32) pointer (drop place sig)
-      walk-area h =
-          let w = found.admitted.whole in (
+      pub walk-area : length img ≡ v.image → ((48 ≤ length img) × (length img ≤ 1056)) × Within (length img - 32) t.pointer kinds
+      walk-area i =
+          let w = lengths.admitted.whole in (
             (omega arith, omega (arith, fits)),
-            rw (start.at, start.from) (signature-after d sig found.admitted.scanned (omega (arith, fits)) start.found),
+            rw (start.at, kinds_are) (signature-after d sig lengths.admitted.scanned (omega (arith, fits)) start.found),
           )

@@ -20,7 +20,7 @@ use Rattle.varargs.specs.Walking.{aligned, stepped, before, marked}
 use Rattle.varargs.specs.Varargs.{body_bytes}
 use Rattle.varargs.proofs.Marker.{end_after}
 use Rattle.varargs_code.specs.declared.Start.{Start}
-use Rattle.varargs_code.specs.declared.Start.TheVariants as S
+use Rattle.std.specs.Prelude.{Option, Some, None}
 use Rattle.varargs_code.specs.Starts.{start_of, Within}
 
 pub within_first : (limit pointer : ℕ) (ks : List ℕ) → Within limit pointer ks → pointer ≤ limit
@@ -37,8 +37,8 @@ aligned_near {a} {pointer} h l = omega (arith, up_small a pointer h)
 -- ---- looking for the marker
 
 -- what is found from a kind on
-abbrev start_from : ℕ → ℕ → List ℕ → Start
-start_from at pointer ks = cond (marked ks) (S.Marked (at + length (before ks) + 1) (lay pointer (before ks)).end) S.Unmarked
+abbrev start_from : ℕ → ℕ → List ℕ → Option Start
+start_from at pointer ks = cond (marked ks) (Some (record { place = at + length (before ks) + 1; pointer = (lay pointer (before ks)).end })) None
 
 pub record Seeking (sig : List ℕ) (pointer at : ℕ) : Type 0 where
   pub within : Within end_most pointer (before (drop at sig))
@@ -50,13 +50,13 @@ seek_starts w = record { within = w; same = rw zero-add }
 start_on : (k at pointer : ℕ) (ks : List ℕ) → is Marker (kind_of k) ≡ false → start_from at pointer (k ∷ ks) ≡ start_from (at + 1) (stepped (kind_of k) pointer) ks
 start_on k at pointer ks m =
     let e : at + suc (length (before ks)) + 1 ≡ at + 1 + length (before ks) + 1 = omega arith in
-    rw m (ap₂ (λ (n o : ℕ). cond (marked ks) (S.Marked n o) S.Unmarked) e (end_after k pointer (before ks) m))
+    rw m (ap₂ (λ (n o : ℕ). cond (marked ks) (Some (record { place = n; pointer = o })) None) e (end_after k pointer (before ks) m))
 
 module _ {sig : List ℕ} {pointer at : ℕ} (w : Seeking sig pointer at) where
   pub seek_near : pointer ≤ end_most
   seek_near = within_first end_most pointer (before (drop at sig)) w.within
 
-  pub seek_ends : length sig ≤ at → S.Unmarked ≡ start_of sig
+  pub seek_ends : length sig ≤ at → None ≡ start_of sig
   seek_ends h = let e : drop at sig ≡ [] = drop_of_length-le sig h in rw e at w.same
 
   module _ (h : at < length sig) {kd : Kind} (e : kd ≡ kind_of (get_or sig at 0)) {t : Bool} (f : t ≡ is Marker kd) where
@@ -66,7 +66,7 @@ module _ {sig : List ℕ} {pointer at : ℕ} (w : Seeking sig pointer at) where
     pub seek_kind : Alignment kd.alignment × (width kd ≤ 512) × (kd.size ≤ 512)
     seek_kind = kind_bounds (get_or sig at 0) e
 
-    pub seek_found : t ≡ true → S.Marked (at + 1) pointer ≡ start_of sig
+    pub seek_found : t ≡ true → Some (record { place = at + 1; pointer = pointer }) ≡ start_of sig
     seek_found g =
         let m : is Marker (kind_of (get_or sig at 0)) ≡ true = rw (← e) (sym f ∙ g) in
         let z : at + 0 ≡ at = omega arith in
@@ -81,12 +81,3 @@ module _ {sig : List ℕ} {pointer at : ℕ} (w : Seeking sig pointer at) where
         })
 
 -- ---- how many bytes the bodies have
-
-pub bytes_on : (sig : List ℕ) (at n whole : ℕ) → n + body_bytes (drop at sig) ≡ whole → at < length sig → {kd : Kind} → kd ≡ kind_of (get_or sig at 0)
-    → n + kd.size + body_bytes (drop (at + 1) sig) ≡ whole
-bytes_on sig at n whole w h {kd} e =
-    let b : body_bytes (drop at sig) ≡ (kind_of (get_or sig at 0)).size + body_bytes (drop (at + 1) sig) = ap body_bytes (from_first sig at h) in
-    rw e (omega arith)
-
-pub bytes_end : (sig : List ℕ) (at n whole : ℕ) → n + body_bytes (drop at sig) ≡ whole → length sig ≤ at → n ≡ whole
-bytes_end sig at n whole w h = let b : body_bytes (drop at sig) ≡ 0 = ap body_bytes (drop_of_length-le sig h) in omega arith

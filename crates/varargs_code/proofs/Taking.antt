@@ -32,8 +32,8 @@ pub record Taking (sig img out₀ final : List ℕ) (pointer n at : ℕ) (out : 
   buffer : out ≡ first ++ drop n out₀
   whole : first ++ walk_from (spilled img) pointer (drop at sig) ≡ final
 
-pub take_starts : {sig img : List ℕ} (out : List ℕ) {start place : ℕ} → Within (length img - 32) start (drop place sig) → body_bytes (drop place sig) ≤ length out
-    → Taking sig img out (walk_from (spilled img) start (drop place sig)) start 0 place out
+pub take_starts : {sig img : List ℕ} (out : List ℕ) {start : ℕ} → Within (length img - 32) start sig → body_bytes sig ≤ length out
+    → Taking sig img out (walk_from (spilled img) start sig) start 0 0 out
 take_starts out w h = record { within = w; room = omega arith; first = []; long = refl; buffer = refl; whole = refl }
 
 module _ {sig img out₀ final : List ℕ} {pointer n at : ℕ} {out : List ℕ} (w : Taking sig img out₀ final pointer n at out) where

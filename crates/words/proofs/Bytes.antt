@@ -3,13 +3,15 @@
 use mathlib.Core.Path.{◌≡◌, refl, sym, ap, ap₂, ◌∙◌}
 use mathlib.Core.List.{List, [], ◌∷◌, ◌++◌, append_assoc, append-nil}
 use mathlib.Core.Bool.{Bool, true, false, ◌&&◌}
-use Prim.Native.Nat.{ℕ, zero, suc, ◌+◌, ◌-◌, ◌*◌, ◌/◌, ◌%◌, ◌^◌, ◌<◌}
+use Prim.Native.Nat.{ℕ, zero, suc, ◌+◌, ◌-◌, ◌*◌, ◌/◌, ◌%◌, ◌^◌, ◌<◌, ◌≤◌}
 use native.Mathlib.Omega.{arith}
-use native.Mathlib.Numerals.{add-one, add-two, add-three}
+use native.Mathlib.Numerals.{add-one}
 use native.Mathlib.Nat.{add-zero, add-suc, zero-add, mul_assoc, mul_comm, mul-sub, pow-succ', one-le-pow, div-one, div-eq_of_lt, div-add-mod', div-div-eq-div-mul, div-lt_iff_lt-mul, add-mul-div_right}
 use lib.Pow.{pow-add}
-use lib.ListN.{length, get_or, set, take, drop, replicate, length-append, replicate-append-replicate}
-use lib.Seq.{sets, take_at, drop_at}
+use lib.ListN.{length, get_or, take, drop, replicate, length-append, replicate-append-replicate}
+use lib.Seq.{sets, sets-eq, take-length, take_at, drop_at}
+use borrow.Rule.Slice.PartMut.{put_mid}
+use Rattle.std.proofs.lemmas.Slice.{put_mid-paste}
 use lib.Dec.{T, eqb, ltb, eqb→eq, eqb_refl, ltb→lt, lt→ltb}
 use lib.Ieee.Bits.{is_true}
 use Rattle.words.specs.Words.{bytes_of, zeros, body, same, proper}
@@ -136,10 +138,6 @@ same-eqb n x y h k =
     (λ t. rw (bytes_injective n x y h k (same→eq (bytes_of n x) (bytes_of n y) t)) (eqb_refl y))
     (λ t. rw (eqb→eq x y t) (same_refl (bytes_of n y)))
 
--- a word taken apart: four stores in a row
-pub four_stores : (out : List ℕ) (at w : ℕ) → w < 4294967296
-    → set (set (set (set out at (w / 16777216)) (at + 1) (w / 65536 % 256)) (at + 2) (w / 256 % 256)) (at + 3) (w % 256) ≡ sets out at (bytes_of 4 w)
-four_stores out at w h =
-    let a : w / 256 / 256 / 256 % 256 ≡ w / 16777216 = omega arith in
-    let b : w / 256 / 256 ≡ w / 65536 = omega arith in
-    rw (a, b, add-one, add-two, add-three)
+-- a part of a list that is overwritten, as stores in a row
+pub part-written : (out part vs : List ℕ) (at k : ℕ) → part ≡ vs → k ≡ length vs → at + length vs ≤ length out → put_mid at k out part ≡ sets out at vs
+part-written out part vs at k e f h = put_mid-paste at k out part vs (length vs) e (sym f) refl ∙ rw take-length (sym (sets-eq vs out at h))

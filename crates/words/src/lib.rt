@@ -1,86 +1,104 @@
 // Words and their bytes. Placement rule 1: bytes and halfwords become words, through signed types.
 #![tactic(auto)]
 
-ghost use Rattle.std.specs.Prelude.{◌≡◌, ◌+◌, ◌≤◌, drop, length, take};
+ghost use Rattle.std.specs.Prelude.{◌≡◌, ℕ, ◌+◌, ◌%◌, ◌^◌, ◌<◌, ◌≤◌, drop, length, take};
 ghost use Rattle.std.proofs.lemmas.List.Edits.{sets};
-ghost use Rattle.std.specs.Int.{w16, w32, w8};
-ghost use Rattle.std.proofs.Common.{of_z, to_z};
+ghost use Rattle.std.specs.Int.{Width, w16, w32, w8};
+ghost use Rattle.std.proofs.Common.{rules, to_z};
+ghost use mir.Val.{bits, bytes};
 ghost use Rattle.words.specs.Words.{bytes_of, promote, proper, to_word};
 
-// The signed byte with these bits. (A cast keeps the value, so `b as i8` alone asks b < 128.)
-fn signed_byte(b: u8) -> i8
-    ensures { result ≡ to_z w8 b }
-{
-    if b < 128 { b as i8 } else { !((255 - b) as i8) }
+// A body narrower than a word: a byte or a halfword.
+pub trait Narrow: Sized {
+    // how wide it is
+    ghost width: { Width };
+
+    // the number that its bits are
+    ghost bits_of: { Self → ℕ };
+
+    // The signed number with the same bits.
+    fn signed(self) -> i32
+        ensures value { result ≡ to_z width (bits_of self) }
+        ensures in_width { bits_of self < 2 ^ bits width };
+
+    // The number that its bits are.
+    fn unsigned(self) -> u32
+        ensures value { result ≡ bits_of self }
+        ensures in_width { bits_of self < 2 ^ bits width };
+
+    // The last bytes of a word.
+    fn last_of(w: u32) -> Self
+        ensures { bits_of result ≡ w % 2 ^ bits width };
+
+    ghost narrower: { bytes width ≤ 4 };
 }
 
-// The signed halfword with these bits.
-fn signed_halfword(h: u16) -> i16
-    ensures { result ≡ to_z w16 h }
-{
-    if h < 32768 {
-        h as i16
-    } else {
-        !((65535 - h) as i16)
+impl Narrow for u8 {
+    ghost width = { w8 };
+
+    ghost bits_of = { λ b. b };
+
+    ghost narrower = { Prim.search rules };
+
+    fn signed(self) -> i32 {
+        let byte: i8 = self.cast_signed();
+        byte as i32
+    }
+
+    fn unsigned(self) -> u32 {
+        self as u32
+    }
+
+    fn last_of(w: u32) -> u8 {
+        (w % 256) as u8
     }
 }
 
-// The bits of a signed word.
-fn word_bits(x: i32) -> u32
-    ensures { result ≡ of_z w32 x }
-{
-    if x < 0 {
-        4294967295 - (!x as u32)
-    } else {
-        x as u32
+impl Narrow for u16 {
+    ghost width = { w16 };
+
+    ghost bits_of = { λ h. h };
+
+    ghost narrower = { Prim.search rules };
+
+    fn signed(self) -> i32 {
+        let halfword: i16 = self.cast_signed();
+        halfword as i32
+    }
+
+    fn unsigned(self) -> u32 {
+        self as u32
+    }
+
+    fn last_of(w: u32) -> u16 {
+        (w % 65536) as u16
     }
 }
 
-// The word that a signed or unsigned byte becomes.
-pub fn promote_byte(b: u8, signed: bool) -> u32
-    ensures { bytes_of 4 result ≡ promote (to_word signed 1) (bytes_of 1 b) }
+// The word that a signed or unsigned body becomes.
+pub fn promote<T: Narrow>(body: T, signed: bool) -> u32
+    ensures { bytes_of 4 result ≡ promote (to_word signed (bytes T.width)) (bytes_of (bytes T.width) (T.bits_of body)) }
 {
     if signed {
-        word_bits(signed_byte(b) as i32)
+        body.signed().cast_unsigned()
     } else {
-        b as u32
+        body.unsigned()
     }
 }
 
-// The word that a signed or unsigned halfword becomes.
-pub fn promote_halfword(h: u16, signed: bool) -> u32
-    ensures { bytes_of 4 result ≡ promote (to_word signed 2) (bytes_of 2 h) }
+// Whether a word is the proper promotion of the body in its last bytes.
+pub fn is_promoted<T: Narrow>(w: u32, signed: bool) -> bool
+    ensures { result ≡ proper (to_word signed (bytes T.width)) (bytes T.width) (bytes_of 4 w) }
 {
-    if signed {
-        word_bits(signed_halfword(h) as i32)
-    } else {
-        h as u32
-    }
+    promote(T::last_of(w), signed) == w
 }
 
-// Whether a word is the proper promotion of a byte.
-pub fn is_promoted_byte(w: u32, signed: bool) -> bool
-    ensures { result ≡ proper (to_word signed 1) 1 (bytes_of 4 w) }
-{
-    promote_byte((w % 256) as u8, signed) == w
-}
-
-// Whether a word is the proper promotion of a halfword.
-pub fn is_promoted_halfword(w: u32, signed: bool) -> bool
-    ensures { result ≡ proper (to_word signed 2) 2 (bytes_of 4 w) }
-{
-    promote_halfword((w % 65536) as u16, signed) == w
-}
-
-// A word big-endian at a place.
+// A word big-endian at a place of a buffer that goes on behind it.
 pub fn write_word(out: &mut [u8], at: usize, w: u32)
     requires { at + 4 ≤ length out.old }
     ensures { out.new ≡ sets out.old at (bytes_of 4 w) }
 {
-    out[at] = (w / 16777216) as u8;
-    out[at + 1] = (w / 65536 % 256) as u8;
-    out[at + 2] = (w / 256 % 256) as u8;
-    out[at + 3] = (w % 256) as u8;
+    out[at..at + 4].copy_from_slice(&w.to_be_bytes());
 }
 
 // The big-endian word at a place.
@@ -88,8 +106,5 @@ pub fn word_at(src: &[u8], at: usize) -> u32
     requires { at + 4 ≤ length src.now }
     ensures { bytes_of 4 result ≡ take 4 (drop at src.now) }
 {
-    (src[at] as u32) * 16777216
-        + (src[at + 1] as u32) * 65536
-        + (src[at + 2] as u32) * 256
-        + src[at + 3] as u32
+    u32::from_be_bytes([src[at], src[at + 1], src[at + 2], src[at + 3]])
 }

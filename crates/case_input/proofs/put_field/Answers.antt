@@ -1,52 +1,36 @@
--- `put_field` meets its contract: what it has stored, and the bytes of the rest of the field, are the field's.
-use Rattle.std.proofs.Common.{arith}
-use Rattle.case_input.proofs.Fields.{taken_starts, taken_space, too_long_malformed, half_too_long, series_too_long, taken_series, taken_all}
+-- `put_field` meets its contract: after what is stored so far come the bytes of the rest of the field.
+use Rattle.std.proofs.Common.{◌≡◌, ◌∙◌, ◌+◌, ◌-◌, length, take, drop, sym, ap, arith, length-drop, length-take-le}
+use Rattle.std.proofs.lemmas.Slice.{put_mid-paste}
+use Rattle.case_input.specs.Lines.{series}
+use Rattle.case_input.proofs.Fields.{series-length, taken_starts, taken_space, taken_all, malformed_field, series_too_long, taken_series}
 use Rattle.case_input.proofs.put_field.Goals as goal
 
 pub loop-i-init : goal.loop-i-init
-loop-i-init c = let s = c.args in taken_starts s.line.now s.from s.to s.out.now
+loop-i-init c = taken_starts c.args.text.now c.args.out.now
 
-pub loop-i-preserved-then-line-i-eq32 : goal.loop-i-preserved-then-line-i-eq32
-loop-i-preserved-then-line-i-eq32 c =
-    let s = c.args in
-    let l = c.loop-i in
-    taken_space s.line.now s.from s.to s.out.now l.out l.n l.i l.invariant (omega arith) c.if-line-i-eq32.true
+pub loop-i-preserved-then-text-i-eq32 : goal.loop-i-preserved-then-text-i-eq32
+loop-i-preserved-then-text-i-eq32 c =
+    taken_space c.loop-i.invariant (omega arith) c.if-text-i-eq32.true
 
-pub returns-then-to-i-lt2-clause-value : goal.returns-then-to-i-lt2-clause-value
-returns-then-to-i-lt2-clause-value c =
-    let s = c.args in
-    let l = c.loop-i in
-    let x = half_too_long s.line.now s.from s.to s.out.now l.out l.n l.i l.invariant (omega arith) c.if-line-i-eq32.false c.if-to-i-lt2.true (omega arith) in
-    let r = too_long_malformed s.line.now s.from s.to s.out.now l.out l.n l.i l.invariant (omega arith) c.if-line-i-eq32.false x {now = l.out} in
-    r.0
+pub returns-in_err-s-clause-value : goal.returns-in_err-s-clause-value
+returns-in_err-s-clause-value c =
+    c.from_residual.ensures ∙ malformed_field c.loop-i.invariant (omega arith) c.if-text-i-eq32.false (sym c.in_err-s.ensures.value)
 
 pub returns-then-out-n-clause-value : goal.returns-then-out-n-clause-value
 returns-then-out-n-clause-value c =
-    let s = c.args in
-    let l = c.loop-i in
-    let t = c.series_at-t in
-    let x = series_too_long s.line.now s.from s.to s.out.now l.out l.n l.i l.invariant (omega arith) c.if-line-i-eq32.false t.result (omega arith) t.ensures.value c.if-out-n.true in
-    let r = too_long_malformed s.line.now s.from s.to s.out.now l.out l.n l.i l.invariant (omega arith) c.if-line-i-eq32.false x {now = l.out} in
-    r.0
+    series_too_long c.loop-i.invariant (omega arith) c.if-text-i-eq32.false c.in_ok-s.s (sym c.in_ok-s.ensures.value) (omega arith)
 
 pub loop-i-preserved : goal.loop-i-preserved
 loop-i-preserved c =
-    let s = c.args in
     let l = c.loop-i in
-    let t = c.series_at-t in
-    let p = c.put_series-n in
-    rw p.ensures.value (taken_series s.line.now s.from s.to s.out.now l.out l.n l.i l.invariant (omega arith) c.if-line-i-eq32.false t.result (omega arith) t.ensures.value t.ensures.at_lt_end (omega arith) p.ensures.out_after p.auto.out)
+    let s = c.in_ok-s.s in
+    let many : length (take (l.n + s.count - l.n) (drop l.n l.out)) ≡ s.count =
+    length-take-le (l.n + s.count - l.n) (drop l.n l.out) (omega (arith, length-drop l.n l.out)) ∙ omega arith in
+    taken_series l.invariant (omega arith) c.if-text-i-eq32.false s (sym c.in_ok-s.ensures.value) c.in_ok-s.ensures.at_lt_end (omega arith)
+    (put_mid-paste l.n _ l.out _ _ _ (c.put_series.ensures ∙ ap (series s.byte s.step) many) (omega arith) (sym (series-length s.byte s.step s.count)))
 
 pub returns-clause-value : goal.returns-clause-value
-returns-clause-value c =
-    let s = c.args in
-    let l = c.loop-i in
-    let r = taken_all s.line.now s.from s.to s.out.now l.out l.n l.i l.invariant (omega arith) in
-    r.0
+returns-clause-value c = let r = taken_all c.loop-i.invariant (omega arith) in r.0
 
 pub returns-clause-out_after : goal.returns-clause-out_after
-returns-clause-out_after c =
-    let s = c.args in
-    let l = c.loop-i in
-    let r = taken_all s.line.now s.from s.to s.out.now l.out l.n l.i l.invariant (omega arith) in
-    r.1
+returns-clause-out_after c = let r = taken_all c.loop-i.invariant (omega arith) in λ e. r.1

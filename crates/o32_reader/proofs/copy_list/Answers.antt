@@ -1,36 +1,55 @@
 -- `copy_list` meets its contract: what was copied and the reading of what is ahead are the whole reading.
 use native.Mathlib.Omega.{arith}
-use mathlib.Core.Path.{refl, ◌∙◌}
-use lib.ListN.{length-set}
+use borrow.Author.Rules.{rules}
+use mathlib.Core.Path.{◌≡◌, refl, sym, ap, ◌∙◌}
+use mathlib.Core.List.{List}
+use Prim.Native.Nat.{ℕ, ◌+◌, ◌≤◌}
+use lib.ListN.{length, get_or, set, length-set, length-drop}
+use lib.Seq.{length-take-le}
+use Rattle.words.specs.Words.{body}
+use Rattle.places.specs.Places.{gather}
+use Rattle.places.proofs.Stores.{run-written}
+use Rattle.o32.specs.O32.{carriers}
 use Rattle.passes.proofs.Reading.{copy_starts}
 use Rattle.o32_laws.proofs.Premises.{O32-premises}
 use Rattle.o32_step.proofs.Ahead.{ahead_placeable, ahead_fit}
 use Rattle.o32_reader.proofs.Turns.{body-room, body-copied}
 use Rattle.o32_reader.proofs.copy_list.Goals as goal
 
-pub loop-at-init : goal.loop-at-init
-loop-at-init c = (refl, copy_starts (O32-premises c.args.device) _ c.start-st.ensures c.requires.admitted)
+pub loop-byte-init : goal.loop-byte-init
+loop-byte-init c = (refl, copy_starts (O32-premises c.args.device) _ c.start-st.ensures c.requires.admitted)
 
 pub placement_of-placement-requires : goal.placement_of-placement-requires
-placement_of-placement-requires c = ahead_placeable c.args.device c.loop-at.invariant.1.ahead c.kind_of-kind.ensures
+placement_of-placement-requires c = ahead_placeable c.args.device c.loop-byte.invariant.1.ahead c.from-kind.ensures
 
 pub bounds-out-n : goal.bounds-out-n
-bounds-out-n c = omega (arith, body-room c.args.device c.loop-at.invariant.1 c.loop-at-test.true c.kind_of-kind.ensures c.placement_of-placement.ensures c.requires.image_in_bounds, c.loop-at.invariant.0)
+bounds-out-n c = omega (arith, body-room c.args.device c.loop-byte.invariant.1 c.loop-byte-test.true c.from-kind.ensures c.placement_of-placement.ensures c.requires.image_in_bounds, c.loop-byte.invariant.0)
 
 pub get_body-requires : goal.get_body-requires
 get_body-requires c = record {
-  fit = ahead_fit c.args.device c.loop-at.invariant.1.ahead c.kind_of-kind.ensures c.placement_of-placement.ensures c.loop-at-test.true _ (omega arith);
-  size_in_bounds = simp length-set (omega (arith, body-room c.args.device c.loop-at.invariant.1 c.loop-at-test.true c.kind_of-kind.ensures c.placement_of-placement.ensures c.requires.image_in_bounds, c.loop-at.invariant.0));
+  fit = ahead_fit c.args.device c.loop-byte.invariant.1.ahead c.from-kind.ensures c.placement_of-placement.ensures c.loop-byte-test.true _ (omega arith);
+  body_length =
+      let r = body-room c.args.device c.loop-byte.invariant.1 c.loop-byte-test.true c.from-kind.ensures c.placement_of-placement.ensures c.requires.image_in_bounds in
+      length-take-le _ _ (rw (length-drop, length-set) (omega (arith, r, c.loop-byte.invariant.0))) ∙ omega (arith, r);
 }
 
 pub advance-st-requires-clause-placeable : goal.advance-st-requires-clause-placeable
-advance-st-requires-clause-placeable c = ahead_placeable c.args.device c.loop-at.invariant.1.ahead c.kind_of-kind.ensures
+advance-st-requires-clause-placeable c = ahead_placeable c.args.device c.loop-byte.invariant.1.ahead c.from-kind.ensures
 
-pub overflow_add-n : goal.overflow_add-n
-overflow_add-n c = omega (arith, body-room c.args.device c.loop-at.invariant.1 c.loop-at-test.true c.kind_of-kind.ensures c.placement_of-placement.ensures c.requires.image_in_bounds, c.well_formed)
+pub slice_bounds-get_body-end : goal.slice_bounds-get_body-end
+slice_bounds-get_body-end c = simp length-set (omega (arith, body-room c.args.device c.loop-byte.invariant.1 c.loop-byte-test.true c.from-kind.ensures c.placement_of-placement.ensures c.requires.image_in_bounds, c.loop-byte.invariant.0))
 
-pub loop-at-preserved : goal.loop-at-preserved
-loop-at-preserved c = (
-  c.get_body.auto.out ∙ length-set c.loop-at.out c.loop-at.n _ ∙ c.loop-at.invariant.0,
-  body-copied c.args.device c.loop-at.invariant.1 c.loop-at-test.true c.kind_of-kind.ensures c.placement_of-placement.ensures c.requires.image_in_bounds c.advance-st.ensures (omega arith) c.get_body.ensures,
-)
+pub overflow_add-end : goal.overflow_add-end
+overflow_add-end c = omega (arith, body-room c.args.device c.loop-byte.invariant.1 c.loop-byte-test.true c.from-kind.ensures c.placement_of-placement.ensures c.requires.image_in_bounds, c.well_formed)
+
+pub loop-byte-preserved : goal.loop-byte-preserved
+loop-byte-preserved c =
+    let r = body-room c.args.device c.loop-byte.invariant.1 c.loop-byte-test.true c.from-kind.ensures c.placement_of-placement.ensures c.requires.image_in_bounds in
+    let p = c.placement_of-placement.result in
+    let next : List ℕ = set c.loop-byte.out c.loop-byte.n (get_or c.args.signature.now c.loop-byte.byte-index 0) in
+    let inside : c.loop-byte.n + 1 + p.kind.size ≤ length next = rw length-set (omega (arith, r, c.loop-byte.invariant.0)) in
+    let written = run-written next c.get_body.new.out (body p.kind.size (gather c.args.image.now (carriers p))) (c.loop-byte.n + 1) _ p.kind.size c.get_body.ensures
+    (ap length (sym c.get_body.ensures) ∙ c.get_body.auto.out ∙ length-take-le _ _ (rw length-drop (omega (arith, r, inside))) ∙ omega (arith, r)) (omega (arith, r)) inside in (
+      search rules,
+      body-copied c.args.device c.loop-byte.invariant.1 c.loop-byte-test.true c.from-kind.ensures c.placement_of-placement.ensures c.requires.image_in_bounds c.advance-st.ensures (omega arith) written,
+    )

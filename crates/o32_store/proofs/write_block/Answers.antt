@@ -1,4 +1,4 @@
--- `o32_store::write_block` meets its contract. The loop's invariant: the first i words lie at the front of the buffer.
+-- `write_block` meets its contract: so far the first i words lie at the front of the buffer.
 use mathlib.Core.Path.{◌≡◌, ◌∙◌}
 use native.Mathlib.Omega.{arith}
 use lib.ListN.{length}
@@ -8,6 +8,5 @@ use Rattle.o32_store.proofs.write_block.Goals as goal
 pub loop-i-preserved : goal.loop-i-preserved
 loop-i-preserved c =
     let l = c.loop-i in
-    let w = c.write_word in
     let h : length c.args.block ≡ 8 = omega (arith, c.well_formed) in
-    (omega arith, w.auto.out ∙ l.invariant.1, w.ensures ∙ rw l.invariant.2 (word_next c.args.block c.args.out.now l.i (omega arith) (omega arith)))
+    c.write_word.ensures ∙ rw l.invariant (word_next c.args.block c.args.out.now l.i (omega arith) (omega arith))

@@ -4,4 +4,4 @@ use Rattle.o32.specs.O32.{O32}
 use Rattle.plans_own.proofs.plan_for.Goals as goal
 
 pub plan_of-requires : goal.plan_of-requires
-plan_of-requires c = (was_accepted (O32 c.args.device) c.args.bodies c.args.bytes.now (c.measure-found.ensures c.args.device) c.in-Accepted.is).admitted
+plan_of-requires c = (was_accepted (O32 c.args.device) c.args.bodies c.args.bytes.now (c.measure.ensures c.args.device) c.in_ok-found.was).admitted

@@ -1,34 +1,36 @@
 -- `is_opened` meets its contract: its loop passes over 00000000 up to the first instruction.
 use Rattle.std.proofs.Common.{sym, ap, ◌∙◌, arith}
-use Rattle.prologues.specs.Checking.{is_opened}
-use Rattle.prologues_code.proofs.WordsIn.{instructions_blank, instructions_next, instructions_end, opened_none, opened_yes, opened_no}
+use Rattle.prologues.specs.Checking.{are_stores, instructions, is_opened}
+use Rattle.prologues_code.specs.Stores.{first_word}
+use Rattle.prologues_code.proofs.WordsIn.{instructions_blank, instructions_next, instructions_end, words_after, opened_none, opened_yes, opened_no}
 use Rattle.prologues_code.proofs.is_opened.Goals as goal
 
-pub returns-then-word-first : goal.returns-then-word-first
-returns-then-word-first c =
-    let l = c.loop-at in
+pub returns-then-eq : goal.returns-then-eq
+returns-then-eq c =
+    let l = c.loop-i in
     let word = c.word_at-word in
-    let first = c.requires.first_value in
+    let first = c.first_word-first.ensures ∙ ap first_word c.args.saves.areas.frame in
     -- the first instruction, and those after it
-    let is = sym l.invariant.1 ∙ instructions_next _ l.at word.result (omega arith) word.ensures c.if-word-ne0.true in
-    sym (ap (is_opened _ _) is ∙ opened_no _ _ _ _ c.if-word-ne0.true (λ e. c.if-word-first.true (e ∙ sym first)))
+    let is = sym l.invariant ∙ instructions_next _ l.i word.result (omega arith) word.ensures c.if-word-ne0.true in
+    c.has_only_stores.ensures ∙ ap (are_stores _) (ap instructions (words_after _ l.i word.result (omega arith) word.ensures))
+    ∙ sym (ap (is_opened _ _) is ∙ opened_yes _ _ first _ _ c.if-eq.ensures)
 
-pub returns-then-word-ne0 : goal.returns-then-word-ne0
-returns-then-word-ne0 c =
-    let l = c.loop-at in
+pub returns-else-eq : goal.returns-else-eq
+returns-else-eq c =
+    let l = c.loop-i in
     let word = c.word_at-word in
-    let first = c.requires.first_value in
-    let is = sym l.invariant.1 ∙ instructions_next _ l.at word.result (omega arith) word.ensures c.if-word-ne0.true in
-    c.has_only_stores.ensures
-    ∙ sym (ap (is_opened _ _) is ∙ opened_yes _ _ _ _ c.if-word-ne0.true (c.if-word-first.false ∙ first))
+    let first = c.first_word-first.ensures ∙ ap first_word c.args.saves.areas.frame in
+    let is = sym l.invariant ∙ instructions_next _ l.i word.result (omega arith) word.ensures c.if-word-ne0.true in
+    c.if-eq.false ∙ sym (ap (is_opened _ _) is ∙ opened_no _ _ first _ _ c.if-eq.ensures)
 
-pub loop-at-preserved : goal.loop-at-preserved
-loop-at-preserved c =
-    let l = c.loop-at in
+pub loop-i-preserved : goal.loop-i-preserved
+loop-i-preserved c =
+    let l = c.loop-i in
     let word = c.word_at-word in
-    (omega arith, sym (instructions_blank _ l.at word.result (omega arith) word.ensures (omega arith)) ∙ l.invariant.1)
+    sym (instructions_blank _ l.i word.result (omega arith) word.ensures (omega arith)) ∙ l.invariant
 
 pub returns : goal.returns
 returns c =
-    let l = c.loop-at in
-    rw c.requires.first_value (opened_none _ _) ∙ ap (is_opened _ _) (sym (instructions_end _ l.at (omega arith)) ∙ l.invariant.1)
+    let l = c.loop-i in
+    let first = c.first_word-first.ensures ∙ ap first_word c.args.saves.areas.frame in
+    opened_none _ _ first _ c.is_none.ensures ∙ ap (is_opened _ _) (sym (instructions_end _ l.i (omega arith)) ∙ l.invariant)

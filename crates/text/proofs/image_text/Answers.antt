@@ -21,13 +21,10 @@ loop-i-preserved c =
     let image : List ℕ = c.args.image.now in
     let out : List ℕ = c.args.out.now in
     let i : ℕ = c.loop-i.i in
-    let line = c.line-text in (
-      omega arith,
-      paste_overlay-step out (lines image i) line.result c.loop-i.invariant.1 (sym (lines-length image i)) c.put.ensures.out_after
-          ∙ ap (λ (m : List ℕ). overlay (lines image i ++ m) out) line.ensures
-          ∙ ap (λ (k : ℕ). overlay (lines image k) out) (sym (add-one i)),
-      c.put.auto.out ∙ c.loop-i.invariant.2,
-    )
+    let line = c.line-text in
+    paste_overlay-step out (lines image i) line.result c.loop-i.invariant (sym (lines-length image i)) c.put.ensures.out_after
+    ∙ ap (λ (m : List ℕ). overlay (lines image i ++ m) out) line.ensures
+    ∙ ap (λ (k : ℕ). overlay (lines image k) out) (sym (add-one i))
 
 pub returns : goal.returns
 returns c =
@@ -35,5 +32,5 @@ returns c =
     let out : List ℕ = c.args.out.now in
     let l : length (image_text image) ≡ 9 * (length image / 4) = lines-length image (length image / 4) in
     let e : c.loop-i.i ≡ length image / 4 = omega arith in
-    let h = fitting_stored (image_text image) out (omega arith) (sym l) (c.loop-i.invariant.1 ∙ ap (λ (k : ℕ). overlay (lines image k) out) e) in
+    let h = fitting_stored (image_text image) out (omega arith) (sym l) (c.loop-i.invariant ∙ ap (λ (k : ℕ). overlay (lines image k) out) e) in
     record { value = h.0; out_after = h.1 }

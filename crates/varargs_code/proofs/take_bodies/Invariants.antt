@@ -1,14 +1,10 @@
 -- `take_bodies` meets its contract: what was taken, and what is still asked for, are the whole walk.
 use mathlib.Core.Path.{◌≡◌}
-use Prim.Native.Nat.{◌-◌}
-use lib.ListN.{length, drop}
+use lib.ListN.{length}
 use Rattle.varargs.specs.Walking.{spilled, walk_from}
 use Rattle.varargs_code.proofs.Taking.{Taking}
 use Rattle.varargs_code.proofs.take_bodies.Given as goal
 
-abbrev pub invariant-loop-at : goal.invariant-loop-at
-invariant-loop-at l =
-    (length l.out ≡ length l.initial.out) × Taking l.signature l.image l.initial.out (walk_from (spilled l.image) l.start (drop l.place l.signature)) l.pointer l.n l.at l.out
-
-abbrev pub decreases-loop-at : goal.decreases-loop-at
-decreases-loop-at l = length l.signature - l.at
+abbrev pub invariant-loop-byte : goal.invariant-loop-byte
+invariant-loop-byte l =
+    (length l.out ≡ length l.initial.out) × Taking l.kinds l.image l.initial.out (walk_from (spilled l.image) l.start l.kinds) l.pointer l.n l.byte-index l.out
