@@ -52,7 +52,8 @@ pub enum Cause {
     CodeLength,
 }
 
-// A refusal: its cause, its place and its argument's number, or 0 where it has none.
+// A refusal: its cause, its place and its argument's number, each 0 where it has none, as documents 01 and 02 say ("Every other refusal
+// reports 0").
 #[derive(Clone, Copy, PartialEq, Eq)]
 pub struct Refusal {
     pub cause: Cause,

@@ -95,7 +95,7 @@ fn is_kept(out: &[u8]) -> bool
     out.iter().all(|b| *b == FILL)
 }
 
-// What is said of the bytes after the answer's.
+// What is said of the bytes after the answer's, by a flag, as in `put_if`: one text or the other is put, and no step chosen.
 fn put_kept(kept: bool, text: &mut [u8], at: usize) -> usize
     requires { at + 10 ≤ length text.old }
     ensures upper_bound { result ≤ at + 10 }

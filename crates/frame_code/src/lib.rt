@@ -139,7 +139,7 @@ impl Saves {
         (8 * u32::count_ones(request.pairs) + 4 * u32::count_ones(request.general)) as usize
     }
 
-    // One instruction for each save word, from a place on; the place after them. fop and gop are the instruction's word for floating
+    // One instruction for each save word, from a place on in a caller's buffer, which is no field; the place after them. fop and gop are the instruction's word for floating
     // and for general registers, with register 0 and offset 0.
     #[tactic(auto, using(frame::proofs::Collect::length_saves))]
     fn put(self, out: &mut [u8], at: usize, fop: u32, gop: u32) -> usize

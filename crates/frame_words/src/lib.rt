@@ -52,7 +52,8 @@ pub fn lower_sp(f: u32) -> u32
     0x27BD_0000 + negate(f)
 }
 
-// The functions below store at a place and answer the next one: a struct with the buffer in it would be taken apart at each store.
+// The functions below store at a place, and the last two answer the next one: a struct with the buffer in it would be taken apart at each
+// store.
 
 // Two words at a place.
 pub fn put_two_words(out: &mut [u8], at: usize, first: u32, second: u32)

@@ -8,7 +8,7 @@ use Prim.Native.Nat.{ℕ, ◌+◌, ◌-◌, ◌≤◌, ◌<◌}
 use native.Mathlib.Omega.{arith}
 use lib.Dec.{eqb, ltb}
 use lib.ListN.{length, take, drop}
-use borrow.Author.Tests.{eqb-true, eqb-false, eq-eqb, ne_eqb}
+use borrow.Author.Tests.{eqb-true, eqb-false, eq-eqb}
 use Rattle.words.specs.Words.{to_word, body, proper}
 use Rattle.words.proofs.Bytes.{body-whole, proper-whole}
 use Rattle.places.specs.Places.{gather, run}
@@ -20,10 +20,10 @@ use Rattle.kinds.specs.declared.Kind.{Kind}
 use Rattle.o32.specs.declared.Placement.{Placement}
 use Rattle.kinds.specs.Kinds.{is}
 use Rattle.o32_offsets.specs.Offsets.{extension, width}
-use Rattle.o32.specs.O32.{float_bytes, carrier, carriers}
+use Rattle.o32.specs.O32.{carrier, carriers}
 use Rattle.o32_laws.proofs.Laws.{length-span, length_float}
 use Rattle.o32_offsets.proofs.Offsets.{float_width}
-use Rattle.o32_laws.specs.Fitting.{Fit, Floating}
+use Rattle.o32_laws.specs.Fitting.{Fit}
 use Rattle.o32_laws.proofs.Fitting.{float_bounds, Worded, Plain, body_fits}
 use Rattle.o32_load.proofs.Parts.{gather-word, body_part}
 

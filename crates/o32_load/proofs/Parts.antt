@@ -11,10 +11,10 @@ use lib.ListN.{length, take, drop, length-drop}
 use lib.Seq.{length-take-le, drop_at, drop-drop, take-add}
 use borrow.Author.Tests.{ltb-true, ltb-false}
 use Rattle.words.specs.Words.{body}
-use Rattle.places.specs.Places.{gather, put, run}
-use Rattle.places.proofs.Places.{gather_append, put-append}
+use Rattle.places.specs.Places.{gather, run}
+use Rattle.places.proofs.Places.{gather_append}
 use Rattle.o32.specs.O32.{register_bytes, carrier}
-use Rattle.places.proofs.Runs.{length_run, run-add, gather-run}
+use Rattle.places.proofs.Runs.{gather-run}
 use Rattle.o32_laws.proofs.Runs.{span_low, span_high, span_split}
 
 -- ---- read at bytes that lie together

@@ -42,7 +42,7 @@ fn image_length(end: usize) -> usize
     }
 }
 
-// The walk over the records of a list (bodies) or of a signature.
+// The walk over the records of a list (bodies) or of a signature. The two functions below it are names for what the flag says.
 pub fn measure(list: &[u8], bodies: bool) -> Result<Measured, Refusal>
     ensures { (d : Device) → found result ≡ measured (O32 d) (scan (O32 d) bodies list.now) }
 {

@@ -35,6 +35,6 @@ module _ (d : Device) {sig img out₀ final : List ℕ} {st : State} {at n : ℕ
   pub body-room : (n + 1 + kd.size ≤ length out₀) × (p.kind.size ≡ kd.size)
   body-room = (rw e (copy_room w h room), rw g refl)
 
-  pub body-copied : {st' : State} {n' : ℕ} {out' : List ℕ} → st' ≡ advance st kd → n' ≡ n + 1 + kd.size → out' ≡ put (set out n (get_or sig at 0)) (run (n + 1) p.kind.size) (body p.kind.size (gather img (carriers p)))
+  pub body-copied : {st' : State} {n' : ℕ} {out' : List ℕ} → st' ≡ advance st kd → n' ≡ n + 1 + kd.size → out' ≡ put (set out n (get_or sig at 0)) (run (n + 1) kd.size) (body p.kind.size (gather img (carriers p)))
       → Copying (O32-premises d) sig img out₀ final st' (at + 1) n' out'
   body-copied o b i = rw (o, b, e) (copy_turn w h room (rw (g, e) at i))

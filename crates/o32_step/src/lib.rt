@@ -114,7 +114,7 @@ pub fn advance(st: State, kind: Kind, o: usize) -> State
     }
 }
 
-// One record of a list (bodies) or of a signature, with so many bytes left after its kind byte: refusals 1 to 5 in their
+// One record of a list (bodies, a flag as in the definition `taken`) or of a signature, with so many bytes left after its kind byte: refusals 1 to 5 in their
 // order, or its kind and the state after it, with its argument's number, on every device.
 pub fn take(st: State, byte: u8, bodies: bool, left: usize) -> Record
     requires { (st.end ≤ end_most) × (st.prefix.count ≤ arguments_most) }

@@ -2,7 +2,6 @@
 -- Assumes nothing.
 use mathlib.Core.Path.{◌≡◌, refl}
 use mathlib.Core.List.{List}
-use mathlib.Core.Bool.{true}
 use Prim.Native.Nat.{ℕ, ◌+◌, ◌≤◌, ◌<◌}
 use lib.ListN.{length, get_or, take, drop}
 use Rattle.words.specs.Words.{promote}
@@ -10,14 +9,12 @@ use Rattle.places.specs.Places.{put}
 use Rattle.device.specs.declared.Device.{Device}
 use Rattle.kinds.specs.declared.Kind.{Kind}
 use Rattle.kinds.specs.Kinds.{kind_of}
-use Rattle.passes.specs.Passes.{Admitted}
 use Rattle.passes.proofs.Ahead.{ahead_inside}
 use Rattle.passes.proofs.Filling.{Filling, fill_turn}
 use Rattle.o32_offsets.specs.Offsets.{extension}
 use Rattle.o32.specs.declared.State.{State}
 use Rattle.o32.specs.declared.Placement.{Placement}
-use Rattle.o32.specs.O32.{O32, carriers, advance, placement}
-use Rattle.o32_laws.proofs.Bounds.{scan_bound}
+use Rattle.o32.specs.O32.{carriers, advance, placement}
 use Rattle.o32_laws.proofs.Premises.{O32-premises}
 
 module _ (d : Device) {list : List ℕ} {m : ℕ} {final : List ℕ} {st : State} {at : ℕ} {img : List ℕ} (w : Filling (O32-premises d) list m final st at img) (h : at < length list)

@@ -5,7 +5,9 @@ use mathlib.Core.List.{List, ◌++◌, append_assoc}
 use mathlib.Core.Bool.{true}
 use Prim.Native.Nat.{ℕ, ◌+◌, ◌-◌, ◌≤◌}
 use native.Mathlib.Omega.{arith}
-use lib.ListN.{drop, replicate, replicate-append-replicate}
+use lib.ListN.{length, take, drop, replicate, length-drop, replicate-append-replicate}
+use lib.Seq.{length-take-le, drop_at, drop-drop}
+use borrow.Rule.Slice.PartMut.{put_mid}
 use Rattle.words.specs.Words.{bytes_of_words}
 use Rattle.places.specs.Places.{put}
 use Rattle.device.specs.declared.Device.{Device}
@@ -19,6 +21,13 @@ use Rattle.o32_laws.proofs.Premises.{O32-premises}
 module _ (d : Device) (list out : List ℕ) (n : ℕ) (a : Admitted (O32 d) true list n) where
   pub area_there : 32 ≤ n
   area_there = omega (arith, a.whole)
+
+  -- the buffer after its first 32 bytes, with zeros from there on in the image's area
+  pub cleared : n ≤ length out → {part : List ℕ} → part ≡ replicate (length (take (n - 32) (drop 32 out))) 0 → drop 32 (put_mid 32 (n - 32) out part) ≡ replicate (n - 32) 0 ++ drop n out
+  cleared h e =
+      let long : length (take (n - 32) (drop 32 out)) ≡ n - 32 = length-take-le (n - 32) (drop 32 out) (rw length-drop (omega arith)) in
+      let end : 32 + (n - 32) ≡ n = omega (arith, area_there) in
+      drop_at (take 32 out) _ 32 (length-take-le 32 out (omega (arith, area_there))) ∙ rw (e, long, drop-drop, end)
 
   zeros : (rest : List ℕ) → rest ≡ replicate (n - 32) 0 ++ drop n out → bytes_of_words (replicate 8 0) ++ rest ≡ replicate n 0 ++ drop n out
   zeros rest e =

@@ -1,7 +1,7 @@
 // The passes of the writer over a list that was accepted: zeros in the area, each argument at its place, the registers last.
 #![tactic(auto)]
 
-ghost use Rattle.std.specs.Prelude.{◌++◌, true, ◌≡◌, ◌-◌, ◌≤◌, drop, length, replicate};
+ghost use Rattle.std.specs.Prelude.{◌++◌, true, ◌≡◌, ◌≤◌, drop, length, replicate};
 ghost use Rattle.places.specs.Places.{put};
 ghost use Rattle.carried.specs.Image.{carried, image, promoted_bytes};
 ghost use Rattle.carried.specs.Convention.{scan};
@@ -12,15 +12,8 @@ ghost use Rattle.o32_store.specs.Block.{whole};
 use device::Device;
 use kinds::Kind;
 
-// Zero in the area of an image of n bytes.
-fn clear(out: &mut [u8], n: usize)
-    requires { (32 ≤ n) × (n ≤ length out.old) }
-    ensures { drop 32 out.new ≡ replicate (n - 32) 0 ++ drop n out.old }
-{
-    out[32..n].fill(0);
-}
-
-// In what follows a buffer may be longer than the image of n bytes, and keeps what is beyond.
+// In what follows a buffer may be longer than the image of n bytes, and keeps what is beyond; `Admitted` joins a device, a list and a
+// length, which are needed one by one.
 
 // The arguments of a list that was accepted, each at its place: in the register block that is answered, and in the area.
 fn fill(device: Device, list: &[u8], out: &mut [u8], n: usize) -> [u32; 8]
@@ -52,7 +45,7 @@ pub fn lay(device: Device, list: &[u8], out: &mut [u8], n: usize)
     requires n_in_bounds { n ≤ length out.old }
     ensures { out.new ≡ image n (placed_in (scan (O32 device) true list.now)) list.now ++ drop n out.old }
 {
-    clear(out, n);
+    out[32..n].fill(0);
     let block = fill(device, list, out, n);
     o32_store::write_block(block, out);
 }

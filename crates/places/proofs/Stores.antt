@@ -3,7 +3,7 @@
 -- Assumes nothing.
 use mathlib.Core.Path.{◌≡◌, refl, sym, ap, ap₂, ◌∙◌}
 use mathlib.Core.List.{List, [], ◌∷◌, ◌++◌, append-nil}
-use Prim.Native.Nat.{ℕ, zero, suc, ◌+◌, ◌≤◌, ◌<◌}
+use Prim.Native.Nat.{ℕ, zero, suc, ◌+◌, ◌-◌, ◌≤◌, ◌<◌}
 use native.Mathlib.Omega.{arith}
 use native.Mathlib.Numerals.{add-one}
 use native.Mathlib.Nat.{zero-add, suc-add, add-suc}
@@ -41,10 +41,15 @@ sets_run : (vs l : List ℕ) (i : ℕ) → sets l i vs ≡ put l (run i (length 
 sets_run [] l i = refl
 sets_run (v ∷ vs) l i = sets_run vs (set l i v) (suc i)
 
--- a run that is overwritten
-pub run-written : (out part vs : List ℕ) (to k n : ℕ) → part ≡ vs → length vs ≡ n → k ≡ n → to + n ≤ length out → put_mid to k out part ≡ put out (run to n) vs
-run-written out part vs to k n e l m h =
-    part-written out part vs to k e (m ∙ sym l) (rw l h) ∙ sets_run vs out to ∙ ap (λ (j : ℕ). put out (run to j) vs) l
+-- a part of a list, n bytes from one on: how long it is, and that overwriting it stores at the run of its bytes
+module _ (out : List ℕ) (to n : ℕ) (inside : to + n ≤ length out) where
+  pub part-length : length (take (to + n - to) (drop to out)) ≡ n
+  part-length = length-take-le (to + n - to) (drop to out) (rw length-drop (omega arith)) ∙ omega arith
+
+  pub run-written : (part vs : List ℕ) → length part ≡ length (take (to + n - to) (drop to out)) → part ≡ vs → put_mid to (to + n - to) out part ≡ put out (run to n) vs
+  run-written part vs l e =
+      let m : length vs ≡ n = ap length (sym e) ∙ l ∙ part-length in
+      part-written out part vs to (to + n - to) e (omega arith) (rw m inside) ∙ sets_run vs out to ∙ ap (λ (j : ℕ). put out (run to j) vs) m
 
 -- ---- stores into the first of two parts of a list, into the second, and where the first ends
 

@@ -59,7 +59,7 @@ fn run_plan(device: Device, field: &[u8]) -> Option<()> {
     Some(())
 }
 
-// The device that a plan is made for, by the letter of a word: o asks for the other one.
+// The device that a plan is made for, by the letter of a word, as the text has it: o asks for the other one.
 fn plan_device(word: u8, device: Device) -> Device {
     match (word, device) {
         (b'o', Device::Fpu) => Device::NoFpu,

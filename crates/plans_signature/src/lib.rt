@@ -11,7 +11,7 @@ ghost use Rattle.plans.specs.Plans.{signature_into};
 use answers::{Cause, Refusal};
 use kinds::Kind;
 
-// The place after the record at this place. Walks by it are no `for`, since each step is as long as its record.
+// The place after the record at this place, both in the whole list. Walks by it are no `for`, since each step is as long as its record.
 fn after_record(list: &[u8], at: usize) -> usize
     requires { at + 1 + (kind_of (get_or list.now at 0)).size ≤ length list.now }
     ensures { result ≡ at + 1 + (kind_of (get_or list.now at 0)).size }

@@ -94,7 +94,8 @@ fn is_plan(words: &[u32], plan: &Plan) -> bool
 }
 
 // The call image of a list by the words of a plan, for a device. Refusals 1 to 5 by record of the list, then 20 where the words are
-// not those of the plan that the list's kinds and the device give, then 7. The words are used in comparing them, and nowhere else.
+// not those of the plan that the list's kinds and the device give, then 7. The words are used in comparing them, and nowhere else; the
+// comparing is what differs from `fill` of plans_code.
 pub fn fill(device: Device, words: &[u32], list: &[u8], out: &mut [u8]) -> Result<usize, Refusal>
     ensures answer { in_numbers result ≡ answer_of (fill_into device words.now list.now (length out.old)) }
     ensures buffer { out.new ≡ buffer_of (fill_into device words.now list.now (length out.old)) out.old }

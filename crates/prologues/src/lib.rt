@@ -11,7 +11,7 @@ pub enum Finding {
     Accepted,
     // another word, or the `addiu` not once and first
     OtherWord,
-    // the first register whose store is missing or doubled, a floating one as 32 plus its number
+    // the first register whose store is missing or doubled, a floating one as 32 plus its number, as the paper has it
     Register(u32),
 }
 

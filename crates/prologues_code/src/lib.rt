@@ -15,7 +15,8 @@ use frame::Request;
 use frame_code::Saves;
 use prologues::Finding;
 
-// The store of general register k at its place, where it is saved. That of a floating one is found by its pair and its half.
+// The store of general register k at its place, where it is saved. That of a floating one is found by its pair and its half: one function
+// for both would be passed where the area starts, the bit and the bytes of each.
 #[tactic(auto, unfolding(crate::specs::Stores::general_store))]
 fn general_store(saves: Saves, k: u32) -> Option<u32>
     requires { k < 32 }
@@ -78,6 +79,8 @@ fn is_store(saves: Saves, word: u32) -> bool
 {
     store_of(saves, register_in(word)) == Some(word)
 }
+
+// The code is a part of what was given, so it is no field of `Saves` in the functions below.
 
 // Whether the words of code are stores and 00000000 only.
 fn has_only_stores(saves: Saves, code: &[u8]) -> bool

@@ -39,7 +39,7 @@ pub fn put(text: &[u8], out: &mut [u8], at: usize) -> usize
     end
 }
 
-// The line of the word that starts at a byte of an image: eight hex digits and a newline.
+// The line of the word that starts at a byte of an image, as the definition `line_at` has it: eight hex digits and a newline.
 fn line(image: &[u8], at: usize) -> [u8; 9]
     requires { at + 4 ≤ length image.now }
     ensures { result ≡ line_at image.now at }

@@ -13,7 +13,6 @@ use Rattle.o32_offsets.specs.Offsets.{lay}
 use Rattle.carried.specs.Convention.{scan}
 use Rattle.std.specs.Prelude.{Result, Ok, Err, Option, Some, None}
 use Rattle.answers.specs.declared.Refusal.{Refusal}
-use Rattle.answers.specs.declared.Cause.TheVariants as C
 use Rattle.passes.specs.declared.Measured.{Measured}
 use Rattle.passes.specs.Found.{found}
 use Rattle.passes.specs.Passes.{measured}

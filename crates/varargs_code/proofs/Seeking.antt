@@ -17,7 +17,6 @@ use Rattle.o32_offsets.specs.Offsets.{lay, width, Alignment}
 use Rattle.o32_offsets.proofs.Offsets.{up_small, width-le}
 use Rattle.o32.specs.O32.{end_most}
 use Rattle.varargs.specs.Walking.{aligned, stepped, before, marked}
-use Rattle.varargs.specs.Varargs.{body_bytes}
 use Rattle.varargs.proofs.Marker.{end_after}
 use Rattle.varargs_code.specs.declared.Start.{Start}
 use Rattle.std.specs.Prelude.{Option, Some, None}

@@ -75,7 +75,7 @@ impl Narrow for u16 {
     }
 }
 
-// The word that a signed or unsigned body becomes.
+// The word that a signed or unsigned body becomes; which it is, a flag says, as in the definition `to_word`.
 pub fn promote<T: Narrow>(body: T, signed: bool) -> u32
     ensures { bytes_of 4 result ≡ promote (to_word signed (bytes T.width)) (bytes_of (bytes T.width) (T.bits_of body)) }
 {
@@ -101,7 +101,7 @@ pub fn write_word(out: &mut [u8], at: usize, w: u32)
     out[at..at + 4].copy_from_slice(&w.to_be_bytes());
 }
 
-// The big-endian word at a place.
+// The big-endian word at a place, likewise.
 pub fn word_at(src: &[u8], at: usize) -> u32
     requires { at + 4 ≤ length src.now }
     ensures { bytes_of 4 result ≡ take 4 (drop at src.now) }

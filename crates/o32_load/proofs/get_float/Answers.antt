@@ -1,6 +1,6 @@
 -- `o32_load::get_float` meets its contract: a single is read from the word of its register, a double
 -- from those of two registers, in the order of its bytes.
-use mathlib.Core.Path.{◌≡◌, ap, ◌∙◌}
+use mathlib.Core.Path.{ap, ◌∙◌}
 use Prim.Native.Nat.{ℕ, ◌+◌, ◌-◌, ◌*◌}
 use native.Mathlib.Omega.{arith}
 use lib.ListN.{take, drop}

@@ -1,5 +1,5 @@
 -- `o32_load::get_plain` meets its contract: the bytes lie together in the area, or in the register words, or are split at offset 16.
-use mathlib.Core.Path.{◌≡◌, ap, ◌∙◌}
+use mathlib.Core.Path.{ap, ◌∙◌}
 use Prim.Native.Nat.{ℕ, ◌+◌}
 use native.Mathlib.Omega.{arith}
 use lib.ListN.{length, take, drop}

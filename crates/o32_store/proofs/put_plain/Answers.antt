@@ -1,9 +1,9 @@
 -- `put_plain` meets its contract: the bytes lie together in the area, or in the block, or are split at offset 16.
-use mathlib.Core.Path.{◌≡◌, refl, ap, ◌∙◌}
+use mathlib.Core.Path.{◌≡◌, ap, ◌∙◌}
 use mathlib.Core.List.{List, map}
 use Prim.Native.Nat.{ℕ, ◌+◌, ◌-◌}
 use native.Mathlib.Omega.{arith}
-use lib.ListN.{length, take, drop, length-drop}
+use lib.ListN.{length, take, drop}
 use Rattle.std.proofs.lemmas.List.{take_all}
 use lib.Seq.{length-take-le}
 use Rattle.words.specs.Words.{bytes_of_words}
@@ -20,7 +20,7 @@ returns-then-o-ge16 c =
     let body : List ℕ = c.args.body.now in
     let n : ℕ = length body in
     laid_high c.args.block h c.args.out.now _ n c.args.o body (omega arith)
-    (run-written c.args.out.now c.copy.new.out body (32 + c.args.o) _ n c.copy.ensures refl (omega arith) (omega arith))
+    (run-written c.args.out.now (32 + c.args.o) n (omega arith) c.copy.new.out body c.copy.auto.out c.copy.ensures)
 
 pub returns-then-size-low : goal.returns-then-size-low
 returns-then-size-low c =
@@ -38,6 +38,6 @@ returns c =
     let rest : List ℕ = take (n - low) (drop low body) in
     laid_split c.args.block c.put_low-2.result c.args.out.now _ body n o 0 h g (omega arith) (omega arith) (omega arith)
     (c.put_low-2.ensures ∙ ap (λ (k : ℕ). put (bytes_of_words c.args.block) (run o k) (take low body)) (length-take-le low body (omega arith)))
-    (run-written c.args.out.now c.copy-2.new.out rest 48 _ (n - low) c.copy-2.ensures (length-take-le (n - low) (drop low body) (rw length-drop (omega arith))) (omega arith) (omega arith)
+    (run-written c.args.out.now 48 (n - low) (omega arith) c.copy-2.new.out rest c.copy-2.auto.out c.copy-2.ensures
     ∙ ap (λ (k : ℕ). put c.args.out.now (run 48 (n - low)) (take (n - low) (drop k body))) {y = 0 + low} (omega arith))
     ∙ ap (put (whole c.args.block c.args.out.now) (map carrier (run o n))) (take_all n body (omega arith))
