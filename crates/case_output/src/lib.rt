@@ -190,13 +190,14 @@ fn run_lines<F: Fn(&[u8]) -> Option<()>>(text: &[u8], run: F)
     }
 }
 
-// Runs the cases of the text on standard input, of which the first N bytes are read. It promises nothing but to end: of what is printed
-// by a case nothing is known here.
-pub fn run_input<const N: usize, F: Fn(&[u8]) -> Option<()>>(run: F)
+// Runs the cases of the text on standard input, of which the first N bytes are read; how many bytes were read.
+pub fn run_input<const N: usize, F: Fn(&[u8]) -> Option<()>>(run: F) -> usize
     requires text_bound { N ≤ 131072 }
     requires line_suits { (line : _) → 1 ≤ length line.now → F.pre run line }
+    ensures { result ≤ N }
 {
     let mut text = [0u8; N];
     let n = io::read_full(STDIN_FILENO, &mut text);
     run_lines(&text[..n], run);
+    n
 }
