@@ -3,10 +3,12 @@
 use mathlib.Core.Path.{◌≡◌, refl}
 use mathlib.Core.Logic.{inl, inr}
 use mathlib.Core.Bool.{Bool, true, false, cond, ◌||◌}
-use Prim.Native.Nat.{ℕ, ◌+◌, ◌-◌, ◌≤◌}
+use Prim.Native.Nat.{ℕ, ◌+◌, ◌-◌, ◌≤◌, ◌<◌, ◌^◌}
 use native.Mathlib.Omega.{arith}
 use native.Mathlib.Nat.{div-add-mod', div-mul-le_self, mod-lt, mul-zero}
 use borrow.Author.Tests.{eqb-true}
+use lib.Bits.{bit_and}
+use Rattle.std.proofs.lemmas.Nat.Bits.{and_high_mask}
 use Rattle.words.specs.Words.{up}
 use Rattle.kinds.specs.declared.Class.TheVariants.{Marker, Signed, Unsigned, Float}
 use Rattle.kinds.specs.declared.Kind.{Kind}
@@ -29,6 +31,13 @@ pub up_small : (a n : ℕ) → Alignment a → up a n ≤ n + 7
 up_small a n (inl e) = omega (arith, up_le a n)
 up_small a n (inr (inl e)) = omega (arith, up_le a n)
 up_small a n (inr (inr e)) = omega (arith, up_le a n)
+
+-- a mask that clears the low bits of n + 7 or n + 3 leaves it
+pub masked_8 : (n : ℕ) → n + 7 < 2 ^ 64 → bit_and (n + 7) 18446744073709551608 ≡ up 8 n
+masked_8 n h = and_high_mask 64 3 (omega arith) (n + 7) h
+
+pub masked_4 : (n : ℕ) → n + 3 < 2 ^ 64 → bit_and (n + 3) 18446744073709551612 ≡ up 4 n
+masked_4 n h = and_high_mask 64 2 (omega arith) (n + 3) h
 
 -- ---- bytes after promotion
 

@@ -17,16 +17,17 @@ pub fn width_of(kind: Kind) -> usize
     }
 }
 
-// The next multiple of an alignment of 4 or 8 from n on; 0 where there is no alignment, as `up` has
-// it.
+// The next multiple of an alignment of 4 or 8 from n on; 0 where there is no alignment, as `up` has it. (By a mask: the walks over records
+// wait for each offset, and `next_multiple_of` adds a test of the remainder to it.)
+#[tactic(auto, using(crate::proofs::Offsets::masked_8, crate::proofs::Offsets::masked_4))]
 pub fn align_up(alignment: usize, n: usize) -> usize
     requires alignment { Alignment alignment }
     requires n_bound { n ≤ 1024 }
     ensures { result ≡ up alignment n }
 {
     match alignment {
-        8 => n.next_multiple_of(8),
-        4 => n.next_multiple_of(4),
+        8 => (n + 7) & !7,
+        4 => (n + 3) & !3,
         _ => 0,
     }
 }
