@@ -24,7 +24,7 @@ use Rattle.o32.specs.O32.{O32, advance, placement, start, end_most, area, regist
 use Rattle.o32_offsets.specs.Offsets.{lay}
 use Rattle.o32_laws.proofs.Laws.{O32-laws}
 use Rattle.o32_laws.proofs.Steps.{step-described, ends_within, register-floats}
-use Rattle.o32_laws.proofs.Bounds.{not_full, scan_bound}
+use Rattle.o32_laws.proofs.Bounds.{not_full}
 use Rattle.o32_laws.proofs.Carrying.{reach, reach_end, register_by_kinds}
 use Rattle.o32_laws.proofs.Numbering.{reach-count}
 use Rattle.o32_laws.proofs.Refusing.{end_is}

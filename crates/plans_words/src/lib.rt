@@ -40,7 +40,8 @@ pub fn make_plan(device: Device, signature: &[u8], out: &mut [u32]) -> Result<us
     ensures answer { in_numbers result ≡ answer_of (make_into device signature.now (length out.old)) }
     ensures buffer { out.new ≡ buffer_of (make_into device signature.now (length out.old)) out.old }
 {
-    let plan = plans_own::plan_for(device, signature, false)?;
+    let mut plan = plans_own::no_plan();
+    plans_own::plan_into(device, signature, false, &mut plan)?;
     if out.len() < 98 {
         return Err(Cause::BufferTooShort.into());
     }
@@ -100,7 +101,8 @@ pub fn fill(device: Device, words: &[u32], list: &[u8], out: &mut [u8]) -> Resul
     ensures answer { in_numbers result ≡ answer_of (fill_into device words.now list.now (length out.old)) }
     ensures buffer { out.new ≡ buffer_of (fill_into device words.now list.now (length out.old)) out.old }
 {
-    let own = plans_own::plan_for(device, list, true)?;
+    let mut own = plans_own::no_plan();
+    plans_own::plan_into(device, list, true, &mut own)?;
     let agrees = is_plan(words, &own);
-    plans_own::fill_own(device, Ok(own), agrees, list, out)
+    plans_own::fill_planned(device, &own, agrees, list, out)
 }
