@@ -82,7 +82,7 @@ fn round_up(n: u32) -> u32
     n.next_multiple_of(8)
 }
 
-// The bytes of the argument build area.
+// The bytes of the argument build area, by two fields of a request: whether it is a leaf, and its outgoing bytes.
 fn build_area(leaf: bool, outgoing: u32) -> u32
     requires { outgoing ≤ outgoing_most }
     ensures { result ≡ build_for leaf outgoing }
@@ -122,7 +122,7 @@ pub fn layout_of(device: Device, request: Request) -> Result<Frame, Cause>
     })
 }
 
-// What code saves: a request that is not refused, and its frame.
+// What code saves: a request whose masks may be saved, and its frame.
 #[derive(Clone, Copy)]
 pub struct Saves {
     pub request: Request,

@@ -27,7 +27,7 @@ pub record Plain (k : Kind) : Type 0 where
   pub extended : extension k ≡ zeros 0
   pub wide : width k ≡ k.size
 
--- by the answers of the tests for the two classes
+-- nor does that of a float change
 pub float_extended : (k : Kind) → is Float k ≡ true → extension k ≡ zeros 0
 float_extended k f = let e : class_number k.class ≡ 5 = eqb-true (class_number k.class) 5 f in rw e
 

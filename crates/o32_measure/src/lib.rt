@@ -13,7 +13,8 @@ use answers::Refusal;
 use o32_step::Record;
 use passes::Measured;
 
-// A refused record's answer, as that of the whole.
+// A refused record's answer, as that of the whole. (`let else` answers the record whole, so one that was taken has an arm here too, which
+// is never meant.)
 fn refused(answer: Record, place: usize) -> Result<Measured, Refusal>
     ensures { result ≡ refused_at place answer }
 {

@@ -15,7 +15,7 @@ use o32::Placement;
 
 // An offset below is a multiple of 4, as that of every placement that fits (`Fit`); the functions have the offset alone.
 
-// The word that a byte or halfword becomes.
+// The word that a byte or halfword becomes; which it is, a flag says, as in the definition `to_word`.
 fn promoted(body: &[u8], signed: bool) -> u32
     requires { (1 ≤ length body.now) × (length body.now ≤ 2) }
     ensures { bytes_of 4 result ≡ promote (to_word signed (length body.now)) body.now }

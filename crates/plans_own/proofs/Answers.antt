@@ -23,7 +23,7 @@ use Rattle.o32_laws.proofs.Laws.{O32-laws}
 use Rattle.o32_laws.proofs.Refusing.{end_is}
 use Rattle.plans.specs.declared.Plan.{Plan}
 use Rattle.plans.specs.Plans.{plan_answer, make_plan, numbers, fill_into}
-use Rattle.plans.proofs.Planned.{Planned, was_planned, was_unplanned}
+use Rattle.plans.proofs.Planned.{Planned, was_planned}
 use Rattle.plans_own.specs.Filling.{filled}
 
 -- ---- an image is filled by the list's own plan
@@ -60,11 +60,6 @@ module _ (d : Device) (list : List ℕ) {own : Plan} (e : plan_answer (Ok own) �
       pub filled_done : {o : List ℕ} → 32 + own.area ≤ length out → o ≡ image (32 + own.area) (placed_in (scan (O32 d) true list)) list ++ drop (32 + own.area) out
           → Right (filled d agrees list (length out)) out (Ok (32 + own.area)) o
       filled_done l i = right_as_written (write_done (O32 d) list out own_accepted l i)
-
--- a list whose plan is refused is refused alike
-pub filled_refused : (d : Device) (list out : List ℕ) (agrees : Bool) {own : Result Plan Refusal} {e : Refusal} → plan_answer own ≡ make_plan d true list → own ≡ Err e
-    → Right (filled d agrees list (length out)) out (Err e) out
-filled_refused d list out agrees {e = e} h i = refused_right out (rw (was_unplanned d true list e (ap plan_answer (sym i) ∙ h)))
 
 -- what is compared with the numbers that are given is the plan of the list
 pub fill_compared : (d : Device) (given list out : List ℕ) {own : Plan} {agrees : Bool} {a : Result ℕ Refusal} {o : List ℕ} → plan_answer (Ok own) ≡ make_plan d true list

@@ -78,5 +78,3 @@ module _ {sig : List ℕ} {pointer at : ℕ} (w : Seeking sig pointer at) where
           within = (rw (here, m) at w.within).1;
           same = sym (start_on (get_or sig at 0) at pointer (drop (at + 1) sig) m) ∙ ap (start_from at pointer) (sym here) ∙ w.same;
         })
-
--- ---- how many bytes the bodies have
