@@ -4,7 +4,7 @@ use mathlib.Core.List.{List, map}
 use Prim.Native.Nat.{ℕ, ◌+◌, ◌-◌}
 use native.Mathlib.Omega.{arith}
 use lib.ListN.{length, take, drop}
-use Rattle.std.proofs.lemmas.List.{take_all}
+use Rattle.std.proofs.lemmas.List.{set-get_or, take_all}
 use lib.Seq.{length-take-le}
 use Rattle.words.specs.Words.{bytes_of_words}
 use Rattle.places.specs.Places.{put, run}
@@ -19,8 +19,9 @@ returns-then-o-ge16 c =
     let h : length c.args.block ≡ 8 = omega (arith, c.well_formed) in
     let body : List ℕ = c.args.body.now in
     let n : ℕ = length body in
-    laid_high c.args.block h c.args.out.now _ n c.args.o body (omega arith)
-    (run-written c.args.out.now (32 + c.args.o) n (omega arith) c.copy.new.out body c.copy.auto.out c.copy.ensures)
+    let stored = laid_high c.args.block h c.args.out.now _ n c.args.o body (omega arith)
+    (run-written c.args.out.now (32 + c.args.o) n (omega arith) c.copy.new.out body c.copy.auto.out c.copy.ensures) in
+    search (arith, set-get_or, stored)
 
 pub returns-then-size-low : goal.returns-then-size-low
 returns-then-size-low c =
