@@ -17,7 +17,8 @@ fn put_entries(entries: &[Entry], out: &mut [u32])
     requires { 3 * length entries.now ≤ length out.old }
     ensures { out.new ≡ over (entry_numbers entries.now) out.old }
 {
-    for (i, entry) in entries.iter().enumerate() {
+    for i in 0..entries.len() {
+        let entry = entries[i];
         let at = 3 * i;
         out[at] = entry.kind as u32;
         out[at + 1] = entry.offset as u32;
