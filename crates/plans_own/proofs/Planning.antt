@@ -140,6 +140,9 @@ module _ {d : Device} {bodies : Bool} {l : List ℕ} {m : ℕ} {entries : List E
     pub planning_inside : at + 1 + body_length bodies kd.size ≤ length l
     planning_inside = rw e (ahead_inside w.ahead h)
 
+    pub planning_fits : (p.register ≤ 14) × (p.offset ≤ end_most)
+    planning_fits = rw (g, e) (fits a h)
+
     pub planning_room : is Marker kd ≡ false → st.prefix.count < 32
     planning_room = rw e (room a h)
 

@@ -2,18 +2,19 @@
 // made of these.
 #![tactic(auto)]
 
-ghost use Rattle.std.specs.Prelude.{true, ◌≡◌, length, Ok, Err, IfErr, MatchResult};
+ghost use Rattle.std.specs.Prelude.{true, ◌≡◌, ◌≤◌, length, Ok, Err, IfErr, MatchResult};
 ghost use Rattle.answers.specs.Outcomes.{answer_of, buffer_of, in_numbers};
 ghost use Rattle.carried.specs.Convention.{scan};
 ghost use Rattle.carried.specs.Carried.{kinds};
 ghost use Rattle.passes.specs.Passes.{Admitted, placed_in};
-ghost use Rattle.o32.specs.O32.{O32};
+ghost use Rattle.o32.specs.O32.{O32, end_most};
 ghost use Rattle.plans.specs.Plans.{make_plan, no_plan, plan_answer, plan_of};
 ghost use Rattle.plans_own.specs.Filling.{filled};
 
 use answers::{Cause, Refusal};
 use device::Device;
 use kinds::{Class, Kind};
+use o32::Placement;
 use plans::{Entry, Plan};
 
 // A plan that is all zero, in which another is made: it has 136 bytes, which a plan that is answered would move each time.
@@ -32,6 +33,18 @@ pub fn no_plan() -> Plan
     }
 }
 
+// A placement as an entry of a plan. (A function of its own, since what it answers is stored as one word, and not field by field.)
+fn entry_of(kind: u8, place: Placement) -> Entry
+    requires { (place.register ≤ 14) × (place.offset ≤ end_most) }
+    ensures { result ≡ record { kind = kind; register = place.register; offset = place.offset } }
+{
+    Entry {
+        kind,
+        register: place.register as u8,
+        offset: place.offset as u16,
+    }
+}
+
 // The plan of a list (bodies) or of a signature that was accepted (a fact of a device, bytes and a length, which the functions that ask
 // for it need one by one), and whose image has so many bytes, in a plan that is all zero.
 fn put_plan(device: Device, bytes: &[u8], bodies: bool, image: usize, plan: &mut Plan)
@@ -47,11 +60,7 @@ fn put_plan(device: Device, bytes: &[u8], bodies: bool, image: usize, plan: &mut
         let kind = Kind::from(byte);
         let place = o32_step::placement_of(device, st, kind);
         if !kind.is_class(Class::Marker) {
-            plan.entries[st.prefix.count] = Entry {
-                kind: byte,
-                register: place.register as u8,
-                offset: place.offset as u16,
-            };
+            plan.entries[st.prefix.count] = entry_of(byte, place);
         }
         at = at + 1 + passes::body_length(bodies, kind.size);
         st = o32_step::advance(st, kind, place.offset);
